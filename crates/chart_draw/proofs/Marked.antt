@@ -8,7 +8,7 @@ use Rattle.std.proofs.lemmas.List.Folds.{concat-append}
 use Rattle.std.proofs.lemmas.List.Sums.{fold-append}
 use Rattle.chart_mean.specs.Mark.{bearer, bearer_next, bringer, mark, marks}
 use Rattle.chart_mean.specs.Place as spec
-use Rattle.chart_mean.specs.declared.types.Sent.{Sent}
+use Rattle.chart_mean.specs.declared.types.SentPacket.{SentPacket}
 use Rattle.chart_draw.specs.Bearers.{Agrees, NextBearers}
 use Rattle.chart_draw.specs.Reading.{line_shown}
 use Rattle.chart_draw.specs.declared.lines.DrawnLine.{DrawnLine}
@@ -46,8 +46,8 @@ marks_more lines i d lt =
     ∙ ap (λ text. concat (marks [] front) ++ text) (append-nil last)
 
 -- what is kept agrees with one more line
-pub agrees_more : (old new : Body → Option Sent) (lines : List DrawnLine) (i : ℕ) (d : DrawnLine) → i < length lines →
-    Agrees old (map line_shown (take i lines)) →
+pub agrees_more : (old new : Body → Option SentPacket) (lines : List DrawnLine) (i : ℕ) (d : DrawnLine) →
+    i < length lines → Agrees old (map line_shown (take i lines)) →
     NextBearers old new (line_shown (get_or lines i d)) → Agrees new (map line_shown (take (i + 1) lines))
 agrees_more old new lines i d lt agrees next = λ body.
     next body ∙ ap (λ sent. bearer_next body.word.now sent (line_shown (get_or lines i d))) (agrees body)
@@ -55,8 +55,8 @@ agrees_more old new lines i d lt agrees next = λ body.
     ∙ fold-append (bearer_next body.word.now) None (map line_shown (take i lines)) (line_shown (get_or lines i d) ∷ []))
 
 -- both after one more line
-pub drawn_more : (lines : List DrawnLine) (i : ℕ) (d : DrawnLine) (start text more : List ℕ) (sent : Option Sent)
-    (old new : Body → Option Sent) → i < length lines →
+pub drawn_more : (lines : List DrawnLine) (i : ℕ) (d : DrawnLine) (start text more : List ℕ) (sent : Option SentPacket)
+    (old new : Body → Option SentPacket) → i < length lines →
     text ≡ start ++ concat (marks [] (map line_shown (take i lines))) → Agrees old (map line_shown (take i lines)) →
     ((before : List spec.Line) → Agrees old before →
     sent ≡ bringer (bearer before) (line_shown (get_or lines i d)).says) →

@@ -14,8 +14,8 @@ use Rattle.outside.specs.Tells.{Tells}
 use Rattle.chart_mean.specs.Picture.{chart_of, report_picture}
 use Rattle.chart_mean.specs.Words.{Request}
 use Rattle.chart_mean.specs.Runs.{surrounding, Draws, Comes}
-use Rattle.chart_mean.specs.declared.types.Ending.{Ending}
-use Rattle.chart_mean.specs.declared.types.Ending.TheVariants.{Done, TooLarge, Line, Words, Read, Write, Memory}
+use Rattle.chart_mean.specs.declared.types.ChartEnding.{ChartEnding}
+use Rattle.chart_mean.specs.declared.types.ChartEnding.TheVariants.{Done, TooLarge, Line, Words, Read, Write, Memory}
 use Rattle.audit_judge.specs.declared.judge.TheConstants.{LONGEST_REPORT}
 use Rattle.chart_draw.specs.Charts.{IsNone, Charts, IsFound, IsPicture, IsRefused, StopsAt, Fetches, Writes}
 
@@ -58,8 +58,8 @@ module _ (r : Request) (told : Option Shelved) (reads reads_after : ℕ) where
     sound = sound;
   }
 
-  none : (file : List ℕ) (end : Ending) → IsFound r told reads reads_after file → IsNone (chart_of r.range file) end →
-      StopsAt r told reads reads_after end
+  none : (file : List ℕ) (end : ChartEnding) → IsFound r told reads reads_after file →
+      IsNone (chart_of r.range file) end → StopsAt r told reads reads_after end
   none file TooLarge f c = record { file = file; found = f.found; refused = c; sound = f.sound }
   none file (Line number) f c = record { file = file; found = f.found; refused = c; sound = f.sound }
   none file Memory f c = tt
@@ -69,13 +69,13 @@ module _ (r : Request) (told : Option Shelved) (reads reads_after : ℕ) where
   none file Write f c = absurd c
 
   -- what came of the file that was found
-  pub fetched : (file : List ℕ) (answer : Result (Vec ℕ Global) Ending) → IsFound r told reads reads_after file →
+  pub fetched : (file : List ℕ) (answer : Result (Vec ℕ Global) ChartEnding) → IsFound r told reads reads_after file →
       Charts (chart_of r.range file) answer → Fetches r told reads reads_after answer
   fetched file (Ok picture) f c = record { file = file; found = f.found; charted = c; sound = f.sound }
   fetched file (Err end) f c = none file end f c
 
   -- a picture that was fetched was written so far
-  pub written : (picture : List ℕ) (old new : Tells) (end : Ending) → IsPicture r told reads reads_after picture →
+  pub written : (picture : List ℕ) (old new : Tells) (end : ChartEnding) → IsPicture r told reads reads_after picture →
       Writes picture old new end → Draws r (surrounding told reads reads_after old new) end
   written picture old new Done f w =
       record {
@@ -97,7 +97,7 @@ module _ (r : Request) (told : Option Shelved) (reads reads_after : ℕ) where
   written picture old new Read f w = absurd w
 
   -- a run that stopped before it wrote
-  pub stopped : (output : Tells) (end : Ending) → StopsAt r told reads reads_after end →
+  pub stopped : (output : Tells) (end : ChartEnding) → StopsAt r told reads reads_after end →
       Draws r (surrounding told reads reads_after output output) end
   stopped output TooLarge s =
       record { file = s.file; found = s.found; refused = s.refused; sound = s.sound; untouched = refl }

@@ -12,8 +12,8 @@ use Rattle.chart_mean.specs.Ends.{Said}
 use Rattle.chart_mean.specs.Runs.{Comes, surrounding}
 use Rattle.chart_mean.specs.Through.{RunsThrough, end_after_delivery, Delivers}
 use Rattle.program_streams.specs.Streams.{Stream, HandsOn}
-use Rattle.chart_mean.specs.declared.types.Ending.{Ending}
-use Rattle.chart_mean.specs.declared.types.Ending.TheVariants.{Done, TooLarge, Line, Words, Read, Write, Memory}
+use Rattle.chart_mean.specs.declared.types.ChartEnding.{ChartEnding}
+use Rattle.chart_mean.specs.declared.types.ChartEnding.TheVariants.{Done, TooLarge, Line, Words, Read, Write, Memory}
 
 not_said : (line : List ℕ) (n : ℕ) (e : Errors) → SaysLine line n e → (n ≡ 0 → ⊥) → e.status ≡ 0 → ⊥
 not_said line n e (whole gained is) apart zero = apart (omega (arith, is, zero))
@@ -21,7 +21,7 @@ not_said line n e (failed part is) apart zero = apart (omega (arith, is, zero))
 not_said line n e (no_memory begun is) apart zero = absurd (omega (arith, is, zero))
 
 -- only a run that went well has the status 0
-well : (end : Ending) (e : Errors) → Said end e → e.status ≡ 0 → end ≡ Done
+well : (end : ChartEnding) (e : Errors) → Said end e → e.status ≡ 0 → end ≡ Done
 well Done e said is = refl
 well TooLarge e said is = absurd (not_said _ 1 e said (λ z. omega (arith, z)) is)
 well (Line number) e said is = absurd (not_said _ 1 e said (λ z. omega (arith, z)) is)
@@ -31,7 +31,7 @@ well Write e said is = absurd (not_said _ 5 e said (λ z. omega (arith, z)) is)
 well Memory e said is = absurd (not_said _ 7 e said (λ z. omega (arith, z)) is)
 
 -- an end that is well after the delivery was so before it, and the stream got all
-got_all : (whole : Bool) (end : Ending) → end_after_delivery whole end ≡ Done → (whole ≡ true) × (end ≡ Done)
+got_all : (whole : Bool) (end : ChartEnding) → end_after_delivery whole end ≡ Done → (whole ≡ true) × (end ≡ Done)
 got_all true end is = (refl, is)
 got_all false Done is = absurd (cc is)
 got_all false TooLarge is = absurd (cc is)

@@ -12,23 +12,23 @@ use Rattle.outside.specs.Tells.{Tells}
 use Rattle.chart_mean.specs.Picture.{range_picture, chart_of}
 use Rattle.chart_mean.specs.Words.{Request}
 use Rattle.chart_mean.specs.declared.types.Range.{Range}
-use Rattle.chart_mean.specs.declared.types.Ending.{Ending}
-use Rattle.chart_mean.specs.declared.types.Ending.TheVariants.{Done, TooLarge, Line, Read, Write, Memory}
+use Rattle.chart_mean.specs.declared.types.ChartEnding.{ChartEnding}
+use Rattle.chart_mean.specs.declared.types.ChartEnding.TheVariants.{Done, TooLarge, Line, Read, Write, Memory}
 
 -- why there is no picture of a text; want of memory says nothing
-abbrev pub IsNone : Result (List ℕ) AuditFault → Ending → Type 0
+abbrev pub IsNone : Result (List ℕ) AuditFault → ChartEnding → Type 0
 IsNone charted TooLarge = charted ≡ Err too_large
 IsNone charted (Line number) = charted ≡ Err (bad_line number)
 IsNone charted Memory = Unit {0}
 IsNone charted _ = ⊥
 
 -- the picture of a text, or why there is none
-abbrev pub Charts : Result (List ℕ) AuditFault → Result (Vec ℕ Global) Ending → Type 0
+abbrev pub Charts : Result (List ℕ) AuditFault → Result (Vec ℕ Global) ChartEnding → Type 0
 Charts charted (Ok picture) = charted ≡ Ok picture.items
 Charts charted (Err ending) = IsNone charted ending
 
 -- a text is a report, so that it has a picture and isn't too large; or why not
-abbrev pub IsReport : Range → List ℕ → Result (Unit {0}) Ending → Type 0
+abbrev pub IsReport : Range → List ℕ → Result (Unit {0}) ChartEnding → Type 0
 IsReport range text (Ok done) = (length text ≤ 67108864) ×
     (chart_of range text ≡ Ok (range_picture range (lines_of text)))
 IsReport range text (Err ending) = IsNone (chart_of range text) ending
@@ -58,7 +58,7 @@ pub record IsMissed (r : Request) (told : Option Shelved) (reads reads_after : �
   pub rose : Rose reads reads_after
 
 -- how the program ends at its file, without a picture
-abbrev pub StopsAt : Request → Option Shelved → (reads reads_after : ℕ) → Ending → Type 0
+abbrev pub StopsAt : Request → Option Shelved → (reads reads_after : ℕ) → ChartEnding → Type 0
 StopsAt r told reads reads_after TooLarge = IsRefused r told reads reads_after too_large
 StopsAt r told reads reads_after (Line number) = IsRefused r told reads reads_after (bad_line number)
 StopsAt r told reads reads_after Read = IsMissed r told reads reads_after
@@ -66,17 +66,17 @@ StopsAt r told reads reads_after Memory = Unit {0}
 StopsAt r told reads reads_after _ = ⊥
 
 -- the bytes of the file that was read, or how the program ends
-abbrev pub ReadsText : Request → Option Shelved → (reads reads_after : ℕ) → Result (Vec ℕ Global) Ending → Type 0
+abbrev pub ReadsText : Request → Option Shelved → (reads reads_after : ℕ) → Result (Vec ℕ Global) ChartEnding → Type 0
 ReadsText r told reads reads_after (Ok text) = IsFound r told reads reads_after text.items
 ReadsText r told reads reads_after (Err ending) = StopsAt r told reads reads_after ending
 
 -- the picture of the report that was read, or how the program ends
-abbrev pub Fetches : Request → Option Shelved → (reads reads_after : ℕ) → Result (Vec ℕ Global) Ending → Type 0
+abbrev pub Fetches : Request → Option Shelved → (reads reads_after : ℕ) → Result (Vec ℕ Global) ChartEnding → Type 0
 Fetches r told reads reads_after (Ok picture) = IsPicture r told reads reads_after picture.items
 Fetches r told reads reads_after (Err ending) = StopsAt r told reads reads_after ending
 
 -- a picture was written in one put, or the put failed, or memory ran out
-abbrev pub Writes : List ℕ → Tells → Tells → Ending → Type 0
+abbrev pub Writes : List ℕ → Tells → Tells → ChartEnding → Type 0
 Writes picture old new Done = Gains old new (picture ∷ [])
 Writes picture old new Write = Fails old new (picture ∷ [])
 Writes picture old new Memory = Begins old new (concat (picture ∷ []))

@@ -11,7 +11,7 @@ use crate::lines::DrawnLine;
 use crate::place::down;
 use crate::says::Says;
 use crate::text::{Ends, Text};
-use chart_mean::Sent;
+use chart_mean::SentPacket;
 use std::alloc::{AllocError, Global};
 use std::collections::HashMap;
 
@@ -38,7 +38,7 @@ pub(crate) fn draw_marks(
 }
 
 /// The packet that brings what a line delivers, if another member sent it.
-fn bringer(bearers: &HashMap<Body<'_>, Sent>, says: &Says<'_>) -> Option<Sent>
+fn bringer(bearers: &HashMap<Body<'_>, SentPacket>, says: &Says<'_>) -> Option<SentPacket>
     ensures { (before : List place.Line) → Agrees (hash.get same_body bearers.now) before
         → result ≡ spec.bringer (spec.bearer before) (says_shown says.now) }
 {
@@ -49,7 +49,11 @@ fn bringer(bearers: &HashMap<Body<'_>, Sent>, says: &Says<'_>) -> Option<Sent>
 }
 
 /// Appends the mark of a line.
-fn draw_mark(sent: Option<Sent>, line: &DrawnLine<'_>, text: &mut Text) -> Result<(), AllocError>
+fn draw_mark(
+    sent: Option<SentPacket>,
+    line: &DrawnLine<'_>,
+    text: &mut Text,
+) -> Result<(), AllocError>
     ensures { OnOk result (text.new ≡ text.old ++ spec.mark sent (line_shown line.now)) }
 {
     draw_title(line, text)?;
@@ -70,7 +74,7 @@ fn draw_title(line: &DrawnLine<'_>, text: &mut Text) -> Result<(), AllocError>
 }
 
 /// Appends an arrow from a packet, if there is one, to a place.
-fn draw_arrow(sent: Option<Sent>, x: u64, y: u64, text: &mut Text) -> Result<(), AllocError>
+fn draw_arrow(sent: Option<SentPacket>, x: u64, y: u64, text: &mut Text) -> Result<(), AllocError>
     ensures { OnOk result (text.new ≡ text.old ++ spec.arrow sent x y) }
 {
     let Some(sent) = sent else {
@@ -112,7 +116,7 @@ fn draw_tenth(line: &DrawnLine<'_>, text: &mut Text) -> Result<(), AllocError>
 }
 
 /// The packet, if another member than this one sent it.
-fn from_another(member: u8, sent: Option<&Sent>) -> Option<Sent>
+fn from_another(member: u8, sent: Option<&SentPacket>) -> Option<SentPacket>
     ensures { result ≡ spec.from_another member (option_map (λ s. s.now) sent.entry) }
 {
     match sent {
@@ -122,20 +126,23 @@ fn from_another(member: u8, sent: Option<&Sent>) -> Option<Sent>
 }
 
 /// Notes a line as the bearer of its body, if it is a packet that carries one.
-fn note<'a>(bearers: &mut HashMap<Body<'a>, Sent>, line: &DrawnLine<'a>) -> Result<(), AllocError>
+fn note<'a>(
+    bearers: &mut HashMap<Body<'a>, SentPacket>,
+    line: &DrawnLine<'a>,
+) -> Result<(), AllocError>
     ensures { OnOk result
         (NextBearers (hash.get same_body bearers.old) (hash.get same_body bearers.new) (line_shown line.now)) }
 {
     match line.says {
-        Says::Packet(member, body) => note_packet(bearers, Sent { x: line.x, member }, body),
+        Says::Packet(member, body) => note_packet(bearers, SentPacket { x: line.x, member }, body),
         _ => Ok(()),
     }
 }
 
 /// Notes a packet as the bearer of its body, if it carries one.
 fn note_packet<'a>(
-    bearers: &mut HashMap<Body<'a>, Sent>,
-    sent: Sent,
+    bearers: &mut HashMap<Body<'a>, SentPacket>,
+    sent: SentPacket,
     word: &'a [u8],
 ) -> Result<(), AllocError>
     ensures { OnOk result (Bears (hash.get same_body bearers.old) (hash.get same_body bearers.new) sent word.now) }

@@ -12,7 +12,7 @@ use crate::picture::chart;
 use crate::saying::say;
 use crate::words::{Request, asked_for};
 use audit_judge::LONGEST_REPORT;
-use chart_mean::Ending;
+use chart_mean::ChartEnding;
 use outside::{Got, Shelf, Sink, put_line};
 use std::alloc::Global;
 
@@ -43,14 +43,14 @@ pub(crate) fn perform<S: Shelf, O: Sink>(
     words: &[String],
     shelf: &mut S,
     out: &mut O,
-) -> Ending
+) -> ChartEnding
     ensures { Comes (request_of (map string_bytes words.now))
         (around S.Shelf O.Sink shelf.old shelf.new out.old out.new) result }
 {
     match asked_for(alloc, words) {
         Ok(Some(request)) => draw_report(alloc, request, shelf, out),
-        Ok(None) => Ending::Words,
-        Err(_) => Ending::Memory,
+        Ok(None) => ChartEnding::Words,
+        Err(_) => ChartEnding::Memory,
     }
 }
 
@@ -59,7 +59,7 @@ fn draw_report<S: Shelf, O: Sink>(
     request: Request<'_>,
     shelf: &mut S,
     out: &mut O,
-) -> Ending
+) -> ChartEnding
     ensures { Draws (request_shown request.entry) (around S.Shelf O.Sink shelf.old shelf.new out.old out.new) result }
 {
     match fetch(alloc, request, shelf) {
@@ -69,7 +69,11 @@ fn draw_report<S: Shelf, O: Sink>(
 }
 
 /// Reads a report and draws its picture, or answers how the program ends.
-fn fetch<S: Shelf>(alloc: Global, request: Request<'_>, shelf: &mut S) -> Result<Vec<u8>, Ending>
+fn fetch<S: Shelf>(
+    alloc: Global,
+    request: Request<'_>,
+    shelf: &mut S,
+) -> Result<Vec<u8>, ChartEnding>
     ensures { Fetches (request_shown request.entry) (S.told shelf.old) (S.faults shelf.old) (S.faults shelf.new)
         result }
 {
@@ -82,23 +86,23 @@ fn fetch_text<S: Shelf>(
     alloc: Global,
     request: Request<'_>,
     shelf: &mut S,
-) -> Result<Vec<u8>, Ending>
+) -> Result<Vec<u8>, ChartEnding>
     ensures { ReadsText (request_shown request.entry) (S.told shelf.old) (S.faults shelf.old) (S.faults shelf.new)
         result }
 {
     let mut text = Vec::new(alloc);
     match shelf.read(request.file, &mut text, LONGEST_REPORT as u64)? {
         Got::Whole => Ok(text),
-        Got::TooLong => Err(Ending::TooLarge),
+        Got::TooLong => Err(ChartEnding::TooLarge),
     }
 }
 
 /// Writes a picture, and answers how the program ended.
-fn write<O: Sink>(picture: &[u8], out: &mut O) -> Ending
+fn write<O: Sink>(picture: &[u8], out: &mut O) -> ChartEnding
     ensures { Writes picture.now (tells_of O.Sink out.old) (tells_of O.Sink out.new) result }
 {
     match put_line(picture, out) {
-        Ok(()) => Ending::Done,
-        Err(cause) => Ending::from(cause),
+        Ok(()) => ChartEnding::Done,
+        Err(cause) => ChartEnding::from(cause),
     }
 }

@@ -13,12 +13,12 @@ use crate::rows::draw_rows;
 use crate::style::style;
 use crate::text::{Ends, Text};
 use audit_judge::{AuditError, Law, audit};
-use chart_mean::{Ending, Range};
+use chart_mean::{ChartEnding, Range};
 use std::alloc::{AllocError, Global};
 
 /// The picture of a range of a text, or how the program that is to draw it ends. The texts of which there is one are
 /// those that an audit takes, by whichever law.
-pub(crate) fn chart(alloc: Global, text: &[u8], range: Range) -> Result<Vec<u8>, Ending>
+pub(crate) fn chart(alloc: Global, text: &[u8], range: Range) -> Result<Vec<u8>, ChartEnding>
     ensures { Charts (spec.chart_of range text.now) result }
 {
     match report(alloc, text) {
@@ -28,19 +28,19 @@ pub(crate) fn chart(alloc: Global, text: &[u8], range: Range) -> Result<Vec<u8>,
 }
 
 /// Whether a text is a report; if it isn't, how the program ends.
-fn report(alloc: Global, text: &[u8]) -> Result<(), Ending>
+fn report(alloc: Global, text: &[u8]) -> Result<(), ChartEnding>
     ensures { (range : Range) → IsReport range text.now result }
 {
     match audit(alloc, text, Law::Sender) {
         Ok(_) => Ok(()),
-        Err(AuditError::TooLarge) => Err(Ending::TooLarge),
-        Err(AuditError::Line(number)) => Err(Ending::Line(number)),
-        Err(AuditError::Memory) => Err(Ending::Memory),
+        Err(AuditError::TooLarge) => Err(ChartEnding::TooLarge),
+        Err(AuditError::Line(number)) => Err(ChartEnding::Line(number)),
+        Err(AuditError::Memory) => Err(ChartEnding::Memory),
     }
 }
 
 /// The picture of a range of a report, unless memory runs out.
-fn drawn(alloc: Global, text: &[u8], range: Range) -> Result<Vec<u8>, Ending>
+fn drawn(alloc: Global, text: &[u8], range: Range) -> Result<Vec<u8>, ChartEnding>
     requires { IsReport range text.now (Ok tt) }
     ensures { Charts (spec.chart_of range text.now) result }
 {

@@ -5,9 +5,9 @@ ghost use Rattle.std.specs.String.{string_bytes};
 ghost use Rattle.outside.specs.Said.{errors};
 ghost use Rattle.outside.specs.Tells.{tells_of};
 ghost use Rattle.chart_mean.specs.Ends.{Said};
-ghost use Rattle.chart_mean.specs.declared.types.Ending.TheVariants as ending;
+ghost use Rattle.chart_mean.specs.declared.types.ChartEnding.TheVariants as ending;
 
-use chart_mean::Ending;
+use chart_mean::ChartEnding;
 use outside::{NO_MEMORY, Sink, say_line};
 use std::alloc::{AllocError, Global};
 
@@ -15,17 +15,17 @@ use std::alloc::{AllocError, Global};
 const FILE_REFUSED: u8 = 1;
 
 /// Says how the program ended, and answers its status.
-pub(crate) fn say<E: Sink>(alloc: Global, ending: Ending, err: &mut E) -> u8
+pub(crate) fn say<E: Sink>(alloc: Global, ending: ChartEnding, err: &mut E) -> u8
     ensures { Said ending (errors (tells_of E.Sink err.old) (tells_of E.Sink err.new) result) }
 {
     match ending {
-        Ending::Done => 0,
-        Ending::TooLarge => say_line(b"file: too large\n", FILE_REFUSED, err),
-        Ending::Line(number) => say_number(alloc, number, err),
-        Ending::Words => say_line(b"words: refused\n", 2, err),
-        Ending::Read => say_line(b"read fault\n", 4, err),
-        Ending::Write => say_line(b"write fault\n", 5, err),
-        Ending::Memory => say_line(b"no memory\n", NO_MEMORY, err),
+        ChartEnding::Done => 0,
+        ChartEnding::TooLarge => say_line(b"file: too large\n", FILE_REFUSED, err),
+        ChartEnding::Line(number) => say_number(alloc, number, err),
+        ChartEnding::Words => say_line(b"words: refused\n", 2, err),
+        ChartEnding::Read => say_line(b"read fault\n", 4, err),
+        ChartEnding::Write => say_line(b"write fault\n", 5, err),
+        ChartEnding::Memory => say_line(b"no memory\n", NO_MEMORY, err),
     }
 }
 

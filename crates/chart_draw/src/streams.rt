@@ -7,7 +7,7 @@ ghost use Rattle.chart_mean.specs.Words.{request_of};
 
 use crate::over_sinks::perform;
 use crate::saying::say;
-use chart_mean::Ending;
+use chart_mean::ChartEnding;
 use outside::{Shelf, Sink, StdSink};
 use program_streams::hand_on;
 use std::alloc::Global;
@@ -41,14 +41,14 @@ pub fn run_through<S: Shelf, O: Write + Drop, E: Write + Drop>(
 }
 
 /// How a run ended, by whether the output's stream got all that was put: a picture that it lacks is a fault of writing.
-fn end_after_delivery(whole: bool, ending: Ending) -> Ending
+fn end_after_delivery(whole: bool, ending: ChartEnding) -> ChartEnding
     ensures { result ≡ end_after_delivery whole ending }
 {
     if whole {
         return ending;
     }
     match ending {
-        Ending::Done => Ending::Write,
+        ChartEnding::Done => ChartEnding::Write,
         ending => ending,
     }
 }

@@ -5,18 +5,20 @@ use Rattle.layer_mean.specs.Tree as tree
 use Rattle.layer_mean.specs.Tree.{StatementTree, StatementTrees}
 use Rattle.typed_layer.specs.View.{expression_tree, row_tree, taken_tree, emission_tree, statement_of, block_of}
 use Rattle.typed_layer.specs.View.{statement_tree, block_tree}
-use Rattle.typed_layer.specs.declared.tree.Block.{Block}
+use Rattle.typed_layer.specs.declared.tree.StatementBlock.{StatementBlock}
 use Rattle.typed_layer.specs.declared.tree.Emission.{Emission}
 use Rattle.typed_layer.specs.declared.tree.Expression.{Expression}
-use Rattle.typed_layer.specs.declared.tree.Row.{Row}
+use Rattle.typed_layer.specs.declared.tree.RowExpression.{RowExpression}
 use Rattle.typed_layer.specs.declared.tree.Taken.{Taken}
-use Rattle.typed_layer.specs.declared.tree.Statement.TheFolds.{fold-Block, fold-roll-Statement, fold_out-Block}
+use Rattle.typed_layer.specs.declared.tree.Statement.TheFolds.{fold-StatementBlock, fold-roll-Statement}
+use Rattle.typed_layer.specs.declared.tree.Statement.TheFolds.{fold_out-StatementBlock}
 use Rattle.typed_layer.specs.declared.tree.Statement.TheOpen as layer
 use Rattle.typed_layer.specs.declared.tree.Statement.TheVariants as rust
 
 -- a block is the statements that it has
-block_is : (block : Block) → fold-Block StatementTree StatementTrees statement_of block_of block ≡ block_tree block
-block_is block = fold_out-Block StatementTree StatementTrees statement_of block_of block
+block_is : (block : StatementBlock) →
+    fold-StatementBlock StatementTree StatementTrees statement_of block_of block ≡ block_tree block
+block_is block = fold_out-StatementBlock StatementTree StatementTrees statement_of block_of block
 
 pub bind_tree : (slot : ℕ) (value : Expression) → statement_tree (rust.Bind slot value) ≡
     tree.bind slot (expression_tree value)
@@ -48,7 +50,7 @@ emit_tree emission =
     ap statement_tree (sym (rust.rolls-Emit emission))
     ∙ fold-roll-Statement StatementTree StatementTrees statement_of block_of (layer.Emit emission)
 
-pub push_tree : (cell : ℕ) (index : Expression) (capacity : ℕ) (row : Row) (otherwise : Block) →
+pub push_tree : (cell : ℕ) (index : Expression) (capacity : ℕ) (row : RowExpression) (otherwise : StatementBlock) →
     statement_tree (rust.Push cell index capacity row otherwise)
     ≡ tree.push cell (expression_tree index) capacity (row_tree row) (block_tree otherwise)
 push_tree cell index capacity row otherwise =
@@ -57,7 +59,7 @@ push_tree cell index capacity row otherwise =
     (layer.Push cell index capacity row otherwise)
     ∙ ap (tree.push cell (expression_tree index) capacity (row_tree row)) (block_is otherwise))
 
-pub take_tree : (cell : ℕ) (index : Expression) (taken : Taken) (block otherwise : Block) →
+pub take_tree : (cell : ℕ) (index : Expression) (taken : Taken) (block otherwise : StatementBlock) →
     statement_tree (rust.Take cell index taken block otherwise)
     ≡ tree.take cell (expression_tree index) (taken_tree taken) (block_tree block) (block_tree otherwise)
 take_tree cell index taken block otherwise =
@@ -66,7 +68,7 @@ take_tree cell index taken block otherwise =
     (layer.Take cell index taken block otherwise)
     ∙ ap₂ (tree.take cell (expression_tree index) (taken_tree taken)) (block_is block) (block_is otherwise))
 
-pub branch_tree : (likely : Likely) (condition : Expression) (block otherwise : Block) →
+pub branch_tree : (likely : Likely) (condition : Expression) (block otherwise : StatementBlock) →
     statement_tree (rust.Branch likely condition block otherwise)
     ≡ tree.branch likely (expression_tree condition) (block_tree block) (block_tree otherwise)
 branch_tree likely condition block otherwise =
@@ -75,7 +77,7 @@ branch_tree likely condition block otherwise =
     (layer.Branch likely condition block otherwise)
     ∙ ap₂ (tree.branch likely (expression_tree condition)) (block_is block) (block_is otherwise))
 
-pub each_tree : (slot : ℕ) (below : Expression) (most : ℕ) (block : Block) →
+pub each_tree : (slot : ℕ) (below : Expression) (most : ℕ) (block : StatementBlock) →
     statement_tree (rust.Each slot below most block) ≡ tree.each slot (expression_tree below) most (block_tree block)
 each_tree slot below most block =
     ap statement_tree (sym (rust.rolls-Each slot below most block))

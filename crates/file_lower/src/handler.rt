@@ -25,7 +25,7 @@ use file_slots::{PlacedLayer, VisibleNames, carries, number, numbers_of};
 use layer_ast as ast;
 use layer_ast::{Name, Popped};
 use std::alloc::{AllocError, Global};
-use typed_layer::{Block, Expected, Handler};
+use typed_layer::{Expected, Handler, StatementBlock};
 
 /// The header that a handler takes off, by its tag; without one it is 0.
 fn popped_tag(place: &PlacedLayer, popped: &Option<Popped>) -> u8
@@ -106,7 +106,7 @@ fn expected(
 struct Entered {
     numbers: u8,
     messages: u8,
-    block: Block,
+    block: StatementBlock,
 }
 
 /// The block of a handler, before which these names are visible.

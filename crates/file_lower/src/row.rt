@@ -21,7 +21,9 @@ use layer_ast as ast;
 use layer_ast::{Arguments, Name, Pushed, Queue};
 use layer_words::{Dir, Kind};
 use std::alloc::{AllocError, Global};
-use typed_layer::{Carried, Content, Emission, MessageExpression, Row, Taken, TakenMessage};
+use typed_layer::{
+    Carried, Content, Emission, MessageExpression, RowExpression, Taken, TakenMessage,
+};
 
 /// The last of some arguments as a message, where one is carried.
 fn last_message(
@@ -130,7 +132,7 @@ pub fn pushed_row(
     names: &VisibleNames,
     queue: &Queue,
     items: &Arguments,
-) -> Result<Row, AllocError>
+) -> Result<RowExpression, AllocError>
     requires { length (spec.pushed_row (names_of names.now) (written.queue_tree queue.now)
         (arguments_in (Some (written.arguments_tree items.now)))).numbers ≤ most_fields }
     ensures { IfOk result (λ r. row_tree r
@@ -140,7 +142,7 @@ pub fn pushed_row(
     let has_message = has_message(names, queue);
     let numbers = numbers(alloc, names, has_message, items)?;
     let message = last_message(alloc, names, has_message, items)?;
-    Ok(Row {
+    Ok(RowExpression {
         numbers: few(numbers),
         message,
     })

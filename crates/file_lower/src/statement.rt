@@ -23,7 +23,7 @@ use layer_ast as ast;
 use layer_ast::{Arguments, Name, Pushed, Queue, Size};
 use layer_words::Likely;
 use std::alloc::{AllocError, Global};
-use typed_layer::{Block, Expression, Statement, Taken};
+use typed_layer::{Expression, Statement, StatementBlock, Taken};
 
 /// A name for a number.
 #[tactic(auto, using(crate::proofs::Views::bind_tree))]
@@ -128,7 +128,11 @@ fn emit(
 
 /// A block, whose names are visible in it alone.
 #[cycle(blocks)]
-pub fn block(alloc: Global, names: &mut VisibleNames, b: &ast::Block) -> Result<Block, AllocError>
+pub fn block(
+    alloc: Global,
+    names: &mut VisibleNames,
+    b: &ast::Block,
+) -> Result<StatementBlock, AllocError>
     requires { HoldsBlock (spec.statements_of (names_of names.old) (written.block_tree b.now)) }
     ensures is { IfOk result (λ x. block_tree x ≡ spec.statements_of (names_of names.old) (written.block_tree b.now)) }
     ensures names { OnOk result
@@ -137,7 +141,7 @@ pub fn block(alloc: Global, names: &mut VisibleNames, b: &ast::Block) -> Result<
     let outer = names.outer();
     let statements = statements(alloc, names, &b.statements)?;
     names.leave(outer);
-    Ok(Block { statements })
+    Ok(StatementBlock { statements })
 }
 
 /// Statements one after the other.
@@ -297,7 +301,7 @@ fn taken_block(
     first: &ast::Block,
     queue: &Queue,
     new: &ast::Names,
-) -> Result<(Taken, Block), AllocError>
+) -> Result<(Taken, StatementBlock), AllocError>
     requires { AllByRecursion IsByte
         (spec.taken_row (names_of names.old) (written.queue_tree queue.now)
         (names_in (Some (written.names_tree new.now)))).numbers
@@ -325,7 +329,13 @@ fn taken_block(
 
 /// A take of a row, and what is done where there is none.
 #[tactic(auto, using(crate::proofs::Views::take_tree))]
-fn take(cell: u8, index: Expression, taken: Taken, first: Block, otherwise: Block) -> Statement
+fn take(
+    cell: u8,
+    index: Expression,
+    taken: Taken,
+    first: StatementBlock,
+    otherwise: StatementBlock,
+) -> Statement
     ensures { statement_tree result ≡ tree.take cell (expression_tree index) (taken_tree taken) (block_tree first)
         (block_tree otherwise) }
 {
@@ -339,17 +349,22 @@ fn take(cell: u8, index: Expression, taken: Taken, first: Block, otherwise: Bloc
 }
 
 /// A block without statements.
-fn empty(alloc: Global) -> Block
+fn empty(alloc: Global) -> StatementBlock
     ensures { block_tree result ≡ tree.none }
 {
-    Block {
+    StatementBlock {
         statements: Vec::new(alloc),
     }
 }
 
 /// A condition with two ways.
 #[tactic(auto, using(crate::proofs::Views::branch_tree))]
-fn branch(likely: Likely, condition: Expression, first: Block, otherwise: Block) -> Statement
+fn branch(
+    likely: Likely,
+    condition: Expression,
+    first: StatementBlock,
+    otherwise: StatementBlock,
+) -> Statement
     ensures { statement_tree result ≡ tree.branch likely (expression_tree condition) (block_tree first)
         (block_tree otherwise) }
 {

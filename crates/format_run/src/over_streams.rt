@@ -5,7 +5,7 @@ ghost use Rattle.format_run.specs.Ends.{name_of};
 ghost use Rattle.format_run.specs.Through.{RunsThrough, Delivers, end_after_delivery};
 ghost use Rattle.program_streams.specs.Streams.{over};
 
-use crate::ending::{Ending, say};
+use crate::ending::{LayoutEnding, say};
 use crate::over_sinks::perform;
 use outside::{FileShelf, NO_MEMORY, Shelf, Sink, StdSink};
 use program_streams::{begin, hand_on};
@@ -42,11 +42,11 @@ pub fn run_through<S: Shelf, O: Write + Drop, E: Write + Drop>(
 
 /// How a run ended, by whether the output's stream got all that was put: a whole text that it lacks is a fault of
 /// writing.
-fn end_after_delivery(whole: bool, ending: Ending) -> Ending
+fn end_after_delivery(whole: bool, ending: LayoutEnding) -> LayoutEnding
     ensures { result ≡ end_after_delivery whole ending }
 {
     match ending {
-        Ending::Done if !whole => Ending::Write,
+        LayoutEnding::Done if !whole => LayoutEnding::Write,
         ending => ending,
     }
 }

@@ -7,7 +7,7 @@ ghost use Rattle.job_text.specs.Shown.{node_of, shown_given, shown_job, text};
 ghost use Rattle.msg_core.specs.View.{most_members};
 
 use crate::given::Given;
-use crate::named::{Audit, Explain, Job, Load, Node, Replay, ReplayWith};
+use crate::named::{Audit, Explain, Job, Load, NodeJob, Replay, ReplayWith};
 use crate::numbers::{a_number, a_number_or_zero, some_members};
 use audit_mean::Law;
 use group_mean::Mode;
@@ -175,7 +175,7 @@ fn node_of<'w>(given: &Given<'w>, members: Option<Vec<u32>>) -> Option<Job<'w>>
     let members = members?;
     let mode = mode_of(given.run)?;
     let patience = a_number_or_zero(MOST_PATIENCE, given.patience)?;
-    Some(Job::Node(Node {
+    Some(Job::Node(NodeJob {
         file: given.file,
         plan,
         turns,

@@ -16,7 +16,7 @@ use file_jobs::fetch_stack;
 use group_member::OpenError;
 use group_open::{Opened, open};
 use job_ends::Ending;
-use job_text::Node;
+use job_text::NodeJob;
 use node_loop::{Course, serve};
 use outside::{Clock, Links, Shelf, Sink};
 use script_mean::{GroupLine, NodePlan};
@@ -26,7 +26,7 @@ use std::alloc::{AllocError, Global};
 /// Runs own members of a plan's group over a network, and writes what they do and what it gives.
 pub fn run_node<S: Shelf, O: Sink, N: Links, C: Clock>(
     alloc: Global,
-    node: &Node<'_>,
+    node: &NodeJob<'_>,
     shelf: &mut S,
     out: &mut O,
     links: &mut N,
@@ -50,7 +50,7 @@ fn serve_plan<O: Sink, N: Links, C: Clock>(
     alloc: Global,
     stack: Stack,
     plan: &NodePlan,
-    node: &Node<'_>,
+    node: &NodeJob<'_>,
     out: &mut O,
     links: &mut N,
     clock: &mut C,

@@ -17,7 +17,7 @@ ghost use Rattle.node_loop.specs.Feeding.{Feeds, IsOwn, IsUp, Rests, RestsAgain}
 use crate::course::Course;
 use crate::desk::NodeDesk;
 use crate::outputs::pass_stepped;
-use crate::source::Source;
+use crate::source::OutputSource;
 use group_feed::Feed;
 use outside::{Links, Sink, SinkError, put_line};
 use report_lines::{Line, journal_line};
@@ -94,7 +94,7 @@ pub(crate) fn feed_event<F: Feed, O: Sink, N: Links>(
         Did::Stepped(stepped) => {
             law_accepted_is_light(course.stack.stack());
             desk.outputs.law_places_for_all();
-            let source = Source {
+            let source = OutputSource {
                 stack: course.stack,
                 plans: course.plans,
                 id: member_of(event),

@@ -13,7 +13,7 @@ ghost use Rattle.node_laws.specs.Acts.{sending_acts};
 ghost use Rattle.node_loop.specs.Sending.{MayTake, datagram_of, sent_to};
 ghost use Rattle.stack_shapes.specs.Trees.{plans_tree};
 
-use crate::source::Source;
+use crate::source::OutputSource;
 use crate::tools::Tools;
 use msg_core::{Dest, MOST_MEMBERS, View};
 use outside::{LONGEST_DATAGRAM, LinkError, Links, Sink, SinkError, put_line};
@@ -115,7 +115,7 @@ fn send_to_all_of<O: Sink, N: Links>(
 /// Hands a packet on to those that it is for, as it is sent; for each sending that fails a line says so.
 pub(crate) fn hand_on<O: Sink, N: Links>(
     tools: &mut Tools,
-    source: Source<'_>,
+    source: OutputSource<'_>,
     here: &Here,
     packet: &PacketView<'_>,
     out: &mut O,

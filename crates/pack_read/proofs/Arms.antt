@@ -17,7 +17,7 @@ use Rattle.trace_core.specs.Arena.{Made}
 use Rattle.trace_core.proofs.Makes.{rows_made, item_made, size_made, pick_made, apply_made, binary_made, held_made}
 use Rattle.trace_core.proofs.Makes.{cut_made, tail_made, join_made}
 use Rattle.pack_words.specs.View.{item_in}
-use Rattle.pack_read.specs.declared.queued.Queue.{Queue}
+use Rattle.pack_read.specs.declared.queued.PackedQueue.{PackedQueue}
 use Rattle.pack_read.specs.Expressions.{queue_in, MessageRead, NumberRead, QueueRead}
 use Rattle.pack_read.proofs.Took.{onto, number_read, message_read}
 
@@ -32,7 +32,7 @@ index_read inner t0 t1 t2 t3 a b k opened n close = record {
   made = n.made;
 }
 
-pub length_read : (inner : Inner) (t0 t1 t2 t3 : List ℕ) (a b c : List Node) (q : Queue) (k : ℕ) →
+pub length_read : (inner : Inner) (t0 t1 t2 t3 : List ℕ) (a b c : List Node) (q : PackedQueue) (k : ℕ) →
     Text (codes "(") t0 t1 →
     QueueRead (inner.queue t1) a b t2 q → Text (codes ")") t2 t3 →
     Made b c k (term_of (terms b) (nodes.Rows q.spot.place q.spot.cell q.index)) →
@@ -63,7 +63,7 @@ no_item stack q row (word ∷ []) e = ap (option_map (item q.place q.cell q.inde
 no_item stack q row (word ∷ another ∷ more) e = refl
 
 pub item_read : (stack : List LayerTree) (inner : Inner) (t0 t1 t2 t3 t4 t5 t6 : List ℕ) (a b c d : List Node)
-    (q : Queue) (row f k : ℕ)
+    (q : PackedQueue) (row f k : ℕ)
     (name : List (List ℕ)) →
     Text (codes "(") t0 t1 → QueueRead (inner.queue t1) a b t2 q → Text (codes ",") t2 t3 →
     NumberRead (inner.number t3) b c t4 row →
@@ -137,8 +137,8 @@ not_held stack q row = go (items_at stack q.place q.cell).message where
   go None e = refl
   go (Some m) e = absurd (cc e)
 
-pub held_read : (stack : List LayerTree) (inner : Inner) (t0 t1 t2 t3 t4 t5 : List ℕ) (a b c d : List Node) (q : Queue)
-    (row k : ℕ) (load : Load) →
+pub held_read : (stack : List LayerTree) (inner : Inner) (t0 t1 t2 t3 t4 t5 : List ℕ) (a b c d : List Node)
+    (q : PackedQueue) (row k : ℕ) (load : Load) →
     Text (codes "(") t0 t1 → QueueRead (inner.queue t1) a b t2 q → Text (codes ",") t2 t3 →
     NumberRead (inner.number t3) b c t4 row →
     Text (codes ")") t4 t5 →

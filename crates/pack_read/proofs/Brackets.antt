@@ -14,7 +14,7 @@ use Rattle.pack_words.specs.View.{layers_in, named_in, pair_of}
 use Rattle.pack_words.specs.declared.spot.Spot.{Spot}
 use Rattle.pack_words.specs.declared.error.LineError.{LineError}
 use Rattle.pack_words.specs.declared.scope.Scope.{Scope}
-use Rattle.pack_read.specs.declared.queued.Queue.{Queue}
+use Rattle.pack_read.specs.declared.queued.PackedQueue.{PackedQueue}
 use Rattle.pack_read.specs.declared.sort.Sort.{Sort}
 use Rattle.pack_read.specs.Sorts.{queue_by_sort, sort_of}
 use Rattle.pack_read.proofs.Cells.{no_queue_by, queue_by}
@@ -97,7 +97,7 @@ module _ (s : Scope) (t : List ℕ) where
         ∙ ap (option_and_then (λ taken.
         message_named (layers_in s) (inner s less) taken.0 (core_named (named_in s) taken.0) taken.1)) named)) h
 
-    pub queue_opened : (name : List (List ℕ)) (spot : Spot) (sort : Option Sort) (r : Result Queue LineError) →
+    pub queue_opened : (name : List (List ℕ)) (spot : Spot) (sort : Option Sort) (r : Result PackedQueue LineError) →
         room ≡ suc less →
         a_name t ≡ Some (name, t1) → Some (pair_of spot) ≡ cell_named (layers_in s) name →
         sort ≡ option_map sort_of (form_at (layer_of (layers_in s) spot.place) spot.cell) →
@@ -132,7 +132,7 @@ module _ (s : Scope) (t : List ℕ) where
     unfolding inner
     message_whole r h = h
 
-    pub queue_whole : (r : Result Queue LineError) → ReadsQueue ((inner s (suc most_brackets)).queue t) a b t1 r →
+    pub queue_whole : (r : Result PackedQueue LineError) → ReadsQueue ((inner s (suc most_brackets)).queue t) a b t1 r →
         ReadsQueue (a_queue (layers_in s) (named_in s) t) a b t1 r
     unfolding inner
     queue_whole r h = h

@@ -22,7 +22,7 @@ use Rattle.trace_core.proofs.Makes.{number_made}
 use Rattle.pack_read.specs.declared.targeted.Target.{Target}
 use Rattle.pack_read.specs.declared.targeted.Target.TheVariants as targets
 use Rattle.pack_read.specs.Expressions.{NumberRead, QueueRead, TargetRead, a_target, queue_in}
-use Rattle.pack_read.specs.declared.queued.Queue.{Queue}
+use Rattle.pack_read.specs.declared.queued.PackedQueue.{PackedQueue}
 use Rattle.pack_words.specs.declared.error.LineError.{LineError}
 use Rattle.pack_words.specs.declared.spot.Spot.{Spot}
 use Rattle.pack_words.specs.Reading.{Takes}
@@ -131,7 +131,7 @@ push_parts stack s t0 t1 t2 t3 t4 t5 t6 q ns m space queue opens numbers message
     ∙ ap (option_and_then (λ (z : Unit {0} × List ℕ). Some (trace.push q.place q.cell q.index ns m, z.1))) closes
 
 pub push_read : (stack : List LayerTree) (s : Named) (t0 t1 t2 t3 t4 t5 t6 : List ℕ) (old new : Store)
-    (nodes : List Node) (q : Queue) (ks : List ℕ)
+    (nodes : List Node) (q : PackedQueue) (ks : List ℕ)
     (m : Option Chained) (items : ItemsTree) → the_text (codes " ") t0 ≡ Some (tt, t1) →
     QueueRead (a_queue stack s t1) old.nodes nodes t2 q →
     the_text (codes " (") t2 ≡ Some (tt, t3) → items ≡ items_at stack q.spot.place q.spot.cell →

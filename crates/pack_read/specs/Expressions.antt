@@ -10,12 +10,12 @@ use Rattle.trace_core.specs.Arena.{Made}
 use Rattle.trace_core.specs.View.{Term, a_message, a_number, message_in, number_in, terms}
 use Rattle.pack_words.specs.declared.error.LineError.{LineError}
 use Rattle.pack_words.specs.declared.error.LineError.TheVariants.{Form, Memory}
-use Rattle.pack_read.specs.declared.queued.Queue.{Queue}
+use Rattle.pack_read.specs.declared.queued.PackedQueue.{PackedQueue}
 use Rattle.pack_read.specs.declared.targeted.Target.{Target}
 use Rattle.pack_read.specs.declared.targeted.Target.TheVariants as targets
 
 -- A queue, and a number of a cell, by nodes.
-abbrev pub queue_in : List Term → Queue → QueueNamed
+abbrev pub queue_in : List Term → PackedQueue → QueueNamed
 queue_in ts q = record { place = q.spot.place; cell = q.spot.cell; index = number_in ts q.index }
 
 abbrev pub target_in : List Term → Target → TraceNumber
@@ -45,10 +45,10 @@ pub record MessageRead (taken : Option (TraceMessage × List ℕ)) (old new : Li
     pub is : taken ≡ Some (message_in (terms new) k, rest)
     pub made : Made old new k (a_message (message_in (terms new) k))
 
-pub record QueueRead (taken : Option (QueueNamed × List ℕ)) (old new : List Node) (rest : List ℕ) (q : Queue) : Type 0
-  where
-    pub is : taken ≡ Some (queue_in (terms new) q, rest)
-    pub made : NumberMade old new q.index
+pub record QueueRead (taken : Option (QueueNamed × List ℕ)) (old new : List Node) (rest : List ℕ)
+    (q : PackedQueue) : Type 0 where
+  pub is : taken ≡ Some (queue_in (terms new) q, rest)
+  pub made : NumberMade old new q.index
 
 pub record TargetRead (taken : Option (TraceNumber × List ℕ)) (old new : List Node) (rest : List ℕ) (t : Target) : Type
     0 where
@@ -66,7 +66,8 @@ ReadsMessage taken old new rest (Ok k) = MessageRead taken old new rest k
 ReadsMessage taken old new rest (Err Form) = taken ≡ None
 ReadsMessage taken old new rest (Err Memory) = Unit {0}
 
-abbrev pub ReadsQueue : Option (QueueNamed × List ℕ) → List Node → List Node → List ℕ → Result Queue LineError → Type 0
+abbrev pub ReadsQueue : Option (QueueNamed × List ℕ) → List Node → List Node → List ℕ → Result PackedQueue LineError →
+    Type 0
 ReadsQueue taken old new rest (Ok q) = QueueRead taken old new rest q
 ReadsQueue taken old new rest (Err Form) = taken ≡ None
 ReadsQueue taken old new rest (Err Memory) = Unit {0}

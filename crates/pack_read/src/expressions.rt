@@ -10,7 +10,7 @@ ghost use Rattle.pack_read.specs.Inside.{Opens, inner};
 ghost use Rattle.pack_read.specs.Expressions.{ReadsMessage, ReadsNumber, ReadsQueue, ReadsTarget};
 ghost use Rattle.pack_read.specs.Sorts.{number_by_sort, queue_by_sort};
 
-use crate::queued::Queue;
+use crate::queued::PackedQueue;
 use crate::sort::{CellNamed, Sort, sort_at};
 use crate::targeted::Target;
 use layer_words::Function;
@@ -146,7 +146,7 @@ fn queue_at(
     room: u32,
     cell: CellNamed,
     nodes: &mut Arena,
-) -> Result<Queue, LineError>
+) -> Result<PackedQueue, LineError>
     ensures { ReadsQueue
         (queue_by_sort (inner scope.now room) cell.spot.place cell.spot.cell cell.sort (left text.old))
         nodes.old nodes.new (left text.new) result }
@@ -155,11 +155,11 @@ fn queue_at(
     match cell.sort {
         Some(Sort::Queue) => {
             let index = nodes.push(Node::Atom(Atom::Number(0)))?;
-            Ok(Queue { spot, index })
+            Ok(PackedQueue { spot, index })
         }
         Some(Sort::Queues) => {
             let index = index(text, scope, room, nodes)?;
-            Ok(Queue { spot, index })
+            Ok(PackedQueue { spot, index })
         }
         _ => Err(LineError::Form),
     }
@@ -173,7 +173,7 @@ pub(crate) fn queue(
     scope: &Scope<'_>,
     room: u32,
     nodes: &mut Arena,
-) -> Result<Queue, LineError>
+) -> Result<PackedQueue, LineError>
     ensures { ReadsQueue ((inner scope.now room).queue (left text.old)) nodes.old nodes.new (left text.new) result }
 {
     let inside = opened(room)?;

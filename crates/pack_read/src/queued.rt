@@ -4,7 +4,7 @@ use pack_words::Spot;
 
 /// A queue: its cell, and the node of its index.
 #[derive(Clone, Copy)]
-pub struct Queue {
+pub struct PackedQueue {
     pub spot: Spot,
     pub index: u32,
 }

@@ -7,7 +7,7 @@ ghost use Rattle.pack_words.specs.View.{layers_in, named_in};
 ghost use Rattle.pack_read.specs.Expressions.{ReadsMessage, ReadsNumber, ReadsQueue, ReadsTarget, a_target};
 
 use crate::expressions;
-use crate::queued::Queue;
+use crate::queued::PackedQueue;
 use crate::targeted::Target;
 use pack_words::{LineError, Scope, Text};
 use trace_core::Arena;
@@ -32,7 +32,11 @@ pub fn message(text: &mut Text<'_>, scope: &Scope<'_>, nodes: &mut Arena) -> Res
 }
 
 /// A queue, with a node for its index.
-pub fn queue(text: &mut Text<'_>, scope: &Scope<'_>, nodes: &mut Arena) -> Result<Queue, LineError>
+pub fn queue(
+    text: &mut Text<'_>,
+    scope: &Scope<'_>,
+    nodes: &mut Arena,
+) -> Result<PackedQueue, LineError>
     ensures { ReadsQueue (a_queue (layers_in scope.now) (named_in scope.now) (left text.old)) nodes.old nodes.new
         (left text.new) result }
 {

@@ -19,7 +19,7 @@ use outside::Sink;
 use script_mean::GroupLine;
 use script_text::Workload;
 use stack_judge::Stack;
-use stack_play::{Load, write_counts};
+use stack_play::{PlayedLoad, write_counts};
 use std::alloc::Global;
 
 /// The group of a script that is made.
@@ -57,7 +57,7 @@ pub(crate) fn play_load<O: Sink>(
         outputs,
         mut group,
     } = opened;
-    let load = Load {
+    let load = PlayedLoad {
         stack: stack.stack(),
         plans: &plans,
         workload,

@@ -13,7 +13,7 @@ ghost use Rattle.typed_layer.specs.Places.{typed_tree};
 
 use layer_words::{Dir, Kind};
 use std::alloc::AllocError;
-use typed_layer::{Block, Content, Emission, MessageExpression, Statement, Typed};
+use typed_layer::{Content, Emission, MessageExpression, Statement, StatementBlock, Typed};
 
 /// How many kinds of events there are.
 const KINDS: u32 = 12;
@@ -166,7 +166,7 @@ fn add_repeated(
     node: Node,
     times: u32,
     most: u8,
-    block: &Block,
+    block: &StatementBlock,
     edges: &mut Vec<Edge>,
 ) -> Result<(), AllocError>
     ensures { OnOk result (map edge_tree edges.new.items ≡ map edge_tree edges.old.items ++
@@ -238,7 +238,7 @@ pub fn add_block(
     stack: &Typed,
     node: Node,
     times: u32,
-    block: &Block,
+    block: &StatementBlock,
     edges: &mut Vec<Edge>,
 ) -> Result<(), AllocError>
     ensures { OnOk result (map edge_tree edges.new.items ≡ map edge_tree edges.old.items ++

@@ -10,7 +10,8 @@ ghost use Rattle.typed_layer.specs.View.{expression_tree, message_tree, content_
 ghost use Rattle.typed_layer.specs.View.{statement_tree, block_tree, expected_tree, handler_tree};
 
 use typed_layer::{
-    Block, Content, Emission, Expected, Expression, Handler, MessageExpression, Row, Statement,
+    Content, Emission, Expected, Expression, Handler, MessageExpression, RowExpression, Statement,
+    StatementBlock,
 };
 
 #[cycle(joins_in)]
@@ -113,7 +114,7 @@ fn of_emission(emission: &Emission) -> u32
     }
 }
 
-fn of_row(row: &Row) -> u32
+fn of_row(row: &RowExpression) -> u32
     ensures { result ≡ held_at_most (joins_in_row (row_tree row.now)) }
 {
     let numbers = of_numbers(row.numbers.slice());
@@ -182,7 +183,7 @@ fn of_statement(statement: &Statement) -> u32
 }
 
 #[cycle(joins_of)]
-fn of_block(block: &Block) -> u32
+fn of_block(block: &StatementBlock) -> u32
     ensures { result ≡ held_at_most (joins_of (block_tree block.now)) }
 {
     let mut sum: u32 = 0;

@@ -30,7 +30,7 @@ use step_outputs::{Outputs, law_accepted_is_light};
 
 /// A load: a workload, and the stack over which its script is played, with the plans of that.
 #[derive(Clone, Copy)]
-pub struct Load<'a> {
+pub struct PlayedLoad<'a> {
     pub stack: &'a Stack,
     pub plans: &'a Plans,
     pub workload: Workload,
@@ -43,7 +43,7 @@ pub fn write_counts<G: Feed, O: Sink>(
     alloc: Global,
     group: &mut G,
     outputs: Outputs,
-    load: Load<'_>,
+    load: PlayedLoad<'_>,
     out: &mut O,
 ) -> Result<(), SinkError>
     requires first { IsAtFirst (G.group group.old).mode (stack_tree load.stack.now) (plans_tree load.plans.now) 1 1
@@ -64,7 +64,7 @@ fn count_events<G: Feed>(
     alloc: Global,
     group: &mut G,
     run: &mut Run,
-    load: Load<'_>,
+    load: PlayedLoad<'_>,
     counts: &mut Tally,
 ) -> Result<(), Memory>
     requires first { IsAtFirst (G.group group.old).mode (stack_tree load.stack.now) (plans_tree load.plans.now) 1 1
@@ -90,7 +90,7 @@ fn count_events<G: Feed>(
 fn count_event<G: Feed>(
     group: &mut G,
     run: &mut Run,
-    load: Load<'_>,
+    load: PlayedLoad<'_>,
     event: &ScriptEvent,
     counts: &mut Tally,
 ) -> Result<(), Memory>

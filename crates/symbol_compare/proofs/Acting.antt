@@ -5,7 +5,7 @@ use Rattle.layer_words.specs.declared.events.Dir.{Dir}
 use Rattle.layer_words.specs.declared.events.Kind.{Kind}
 use Rattle.symbol_mean.specs.Value as value
 use Rattle.symbol_mean.specs.Value.{NumberValue, ChainedValue, Act}
-use Rattle.symbol_compare.specs.declared.form.Form.{Form}
+use Rattle.symbol_compare.specs.declared.form.ValueForm.{ValueForm}
 use Rattle.symbol_compare.specs.declared.form.ActForm.{ActForm}
 use Rattle.symbol_compare.specs.declared.form.ActForm.TheVariants as acts
 use Rattle.symbol_compare.specs.Meant.{Meant, a_number, a_row, a_sending, row_of, sending_of, number_in, row_in}
@@ -19,15 +19,15 @@ use Rattle.symbol_compare.proofs.Sent.{row_there, numbers_are}
 sending_there : {ms : List Meant} {k : ℕ} {m : Option ChainedValue} → Stands ms k (a_sending m) → IsSending ms k
 sending_there {ms} {k} s = subst (λ l. Stands ms k (a_sending l)) (sym (ap sending_of s.stands)) s
 
-pub no_act : (fs : List Form) → ActMade fs fs [] None
+pub no_act : (fs : List ValueForm) → ActMade fs fs [] None
 no_act fs = record { grows = not_grown fs; stand = tt }
 
-pub check_made : {a b : List Form} {i : ℕ} {x : NumberValue} → Made a b i (a_number x) →
+pub check_made : {a b : List ValueForm} {i : ℕ} {x : NumberValue} → Made a b i (a_number x) →
     ActMade a b (value.check x ∷ []) (Some (acts.Check i))
 check_made m = record
     { grows = m.grows; stand = (record { well = number_there m.stands; is = ap value.check (number_is m.stands) }, tt) }
 
-pub take_made : {a b : List Form} {i : ℕ} {x : NumberValue} (p c : ℕ) → Made a b i (a_number x) →
+pub take_made : {a b : List ValueForm} {i : ℕ} {x : NumberValue} (p c : ℕ) → Made a b i (a_number x) →
     ActMade a b (value.take p c x ∷ []) (Some (acts.Take p c i))
 take_made p c m = record {
   grows = m.grows;
@@ -35,7 +35,7 @@ take_made p c m = record {
       (record { well = number_there m.stands; is = ap (value.take p c) (number_is m.stands) }, tt);
 }
 
-pub set_made : {a b e : List Form} {i j : ℕ} {x y : NumberValue} (p c : ℕ) → Made a b i (a_number x) →
+pub set_made : {a b e : List ValueForm} {i j : ℕ} {x y : NumberValue} (p c : ℕ) → Made a b i (a_number x) →
     Made b e j (a_number y) →
     ActMade a e (value.set p c x y ∷ []) (Some (acts.Set p c i j))
 set_made p c m n = let k = stands_grown n.grows m.stands in record {
@@ -50,7 +50,7 @@ set_made p c m n = let k = stands_grown n.grows m.stands in record {
   );
 }
 
-pub square_made : {a b e f : List Form} {i j l : ℕ} {x y z : NumberValue} (p c : ℕ) → Made a b i (a_number x) →
+pub square_made : {a b e f : List ValueForm} {i j l : ℕ} {x y z : NumberValue} (p c : ℕ) → Made a b i (a_number x) →
     Made b e j (a_number y) → Made e f l (a_number z) →
     ActMade a f (value.set_square p c x y z ∷ []) (Some (acts.SetSquare p c i j l))
 square_made p c m n o = let k = stands_grown (grown_on n.grows o.grows) m.stands in let h =
@@ -65,8 +65,8 @@ square_made p c m n o = let k = stands_grown (grown_on n.grows o.grows) m.stands
       );
     }
 
-pub push_made : {a b e f g : List Form} {i r s : ℕ} {x : NumberValue} {xs : List NumberValue} {m : Option ChainedValue}
-    (p c : ℕ) (ks : List ℕ) →
+pub push_made : {a b e f g : List ValueForm} {i r s : ℕ} {x : NumberValue} {xs : List NumberValue}
+    {m : Option ChainedValue} (p c : ℕ) (ks : List ℕ) →
     Made a b i (a_number x) → NumbersMade b e xs ks → Made e f r (a_row (map (number_in (meanings e)) ks)) →
     Made f g s (a_sending m) →
     ActMade a g (value.push p c x xs m ∷ []) (Some (acts.Push p c i r s))
@@ -88,7 +88,7 @@ push_made {a} {b} {e} {f} {g} {i} {r} {s} {x} {xs} {m} p c ks mi mk mr ms = reco
     row = subst (λ l. Stands (meanings g) r (a_row l)) (numbers_are (meanings e) ks xs mk.stand)
         (stands_grown ms.grows mr.stands)
 
-pub output_made : {a b e : List Form} {r s : ℕ} {xs : List NumberValue} {m : Option ChainedValue} (dir : Dir)
+pub output_made : {a b e : List ValueForm} {r s : ℕ} {xs : List NumberValue} {m : Option ChainedValue} (dir : Dir)
     (kind : Kind) →
     Made a b r (a_row xs) → Made b e s (a_sending m) →
     ActMade a e (value.output dir kind xs m ∷ []) (Some (acts.Output dir kind r s))
@@ -104,7 +104,7 @@ output_made dir kind mr ms = let row = stands_grown ms.grows mr.stands in record
 }
 
 -- Acts stay.
-module _ {a b : List Form} (g : Grown a b) where
+module _ {a b : List ValueForm} (g : Grown a b) where
   number_kept : (k : ℕ) → IsNumber (meanings a) k → IsNumber (meanings b) k
   number_kept k h = number_there (stands_grown g h)
 

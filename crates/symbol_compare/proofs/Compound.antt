@@ -16,7 +16,7 @@ use Rattle.symbol_mean.specs.Symbolic.{Values, cell_seen, number_value, message_
 use Rattle.symbol_compare.specs.declared.sort.Sort.{Sort}
 use Rattle.symbol_compare.specs.declared.sort.Sort.TheVariants as sorts
 use Rattle.symbol_compare.specs.declared.form.Seen.{Seen}
-use Rattle.symbol_compare.specs.declared.form.Form.{Form}
+use Rattle.symbol_compare.specs.declared.form.ValueForm.{ValueForm}
 use Rattle.symbol_compare.specs.Meant.{Meant, a_number, a_message, number_in, message_in, seen_tree, meant_of}
 use Rattle.symbol_compare.specs.Table.{Stands, IsNumber, IsMessage, IsWell}
 use Rattle.symbol_compare.specs.Parts.{sort_of, parts_of, AreBelow, form_of}
@@ -127,7 +127,7 @@ module _ (ts : List Term) (ms : List Meant) (v : Values) where
 
   module _ (sees : ℕ → ℕ → Seen) (same : (p c : ℕ) → seen_tree (sees p c) ≡ cell_seen v p c) where
     -- A form is well, and means what a node does.
-    pub record FormIs (x : Node) (f : Form) : Type 0 where
+    pub record FormIs (x : Node) (f : ValueForm) : Type 0 where
       pub well : IsWell ms f
       pub is : meant_of ms f ≡ meant_by v (term_of ts x)
 

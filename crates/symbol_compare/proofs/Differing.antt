@@ -11,7 +11,7 @@ use Rattle.std.proofs.lemmas.Option.{slice_get-get_or}
 use Rattle.pack_mean.specs.Accepted.{DifferAt}
 use Rattle.trace_core.proofs.Earlier.{some_of}
 use Rattle.symbol_mean.specs.Value.{Act}
-use Rattle.symbol_compare.specs.declared.form.Form.{Form}
+use Rattle.symbol_compare.specs.declared.form.ValueForm.{ValueForm}
 use Rattle.symbol_compare.specs.declared.form.ActForm.{ActForm}
 use Rattle.symbol_compare.specs.Meant.{Meant, meanings, act_in}
 use Rattle.symbol_compare.specs.Table.{IsWellAct, AreWell}
@@ -42,7 +42,7 @@ act_well ms (y ∷ xs) [] k x h e = absurd h
 act_well ms (y ∷ xs) (a ∷ does) zero x h e = subst (λ z. IsWellAct ms z) (some_is y x e) h.0.well
 act_well ms (y ∷ xs) (a ∷ does) (suc k) x h e = act_well ms xs does k x h.1 e
 
-module _ (fs : List Form) (w : AreWell [] fs) (u : AreOne fs) (xs ys : List ActForm) (does bs : List Act)
+module _ (fs : List ValueForm) (w : AreWell [] fs) (u : AreOne fs) (xs ys : List ActForm) (does bs : List Act)
     (h : AllZip (ActStands (meanings fs)) xs does) (g : AllZip (ActStands (meanings fs)) ys bs) where
   not_other : (k : ℕ) (o p : Option ActForm) → slice_get xs k ≡ o → slice_get ys k ≡ p → (o ≡ p → ⊥) →
       option_map (act_in (meanings fs)) o ≡ option_map (act_in (meanings fs)) p → ⊥
@@ -74,13 +74,13 @@ module _ (fs : List Form) (w : AreWell [] fs) (u : AreOne fs) (xs ys : List ActF
   acts_differ (Some k) d = acts_apart k d
 
 -- Of two traces.
-pub traces_differ : (a b c : List Form) (xs ys : List ActForm) (does bs : List Act) (place : Option ℕ) → AreWell [] c →
-    AreOne c →
+pub traces_differ : (a b c : List ValueForm) (xs ys : List ActForm) (does bs : List Act) (place : Option ℕ) →
+    AreWell [] c → AreOne c →
     ActsMade a b does xs → ActsMade b c bs ys → Differs xs ys place → Differs does bs place
 traces_differ a b c xs ys does bs place w u m n d = acts_differ c w u xs ys does bs (acts_grown n.grows xs does m.stand)
     n.stand place d
 
-pub traces_told : (a b c : List Form) (xs ys us vs : List ActForm) (does bs : List Act) (place : Option ℕ) →
+pub traces_told : (a b c : List ValueForm) (xs ys us vs : List ActForm) (does bs : List Act) (place : Option ℕ) →
     AreWell [] c → AreOne c →
     ActsMade a b does xs → ActsMade b c bs ys → us ≡ xs → vs ≡ ys → Differs us vs place → Differs does bs place
 traces_told a b c xs ys us vs does bs place w u m n ex ey d =

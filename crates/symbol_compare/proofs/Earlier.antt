@@ -15,32 +15,32 @@ use Rattle.symbol_compare.specs.declared.form.MessageForm as message_form
 use Rattle.symbol_compare.specs.declared.form.MessageForm.TheVariants as messages
 use Rattle.symbol_compare.specs.declared.form.SentForm as sent_form
 use Rattle.symbol_compare.specs.declared.form.SentForm.TheVariants as sent
-use Rattle.symbol_compare.specs.declared.form.Form.{Form}
-use Rattle.symbol_compare.specs.declared.form.Form.TheVariants as forms
+use Rattle.symbol_compare.specs.declared.form.ValueForm.{ValueForm}
+use Rattle.symbol_compare.specs.declared.form.ValueForm.TheVariants as forms
 use Rattle.symbol_compare.specs.Meant.{Meant, a_number, a_message, a_row, a_chain, a_sending, number_of, message_of}
 use Rattle.symbol_compare.specs.Meant.{row_of, chain_of, seen_tree, number_meant, message_meant, sent_meant, meant_of}
 use Rattle.symbol_compare.specs.Meant.{with_next, meanings}
 use Rattle.symbol_compare.specs.Table.{Stands, IsWellNumber, IsWellMessage, IsWellSent, IsWell, AreWell}
 
-pub meanings_more : (old : List Form) (x : Form) → meanings (old ++ x ∷ []) ≡ meanings old ++
+pub meanings_more : (old : List ValueForm) (x : ValueForm) → meanings (old ++ x ∷ []) ≡ meanings old ++
     meant_of (meanings old) x ∷ []
 unfolding meanings
 meanings_more old x = fold-append with_next [] old (x ∷ [])
 
-fold_long : (ms : List Meant) (fs : List Form) → length (fold with_next ms fs) ≡ length ms + length fs
+fold_long : (ms : List Meant) (fs : List ValueForm) → length (fold with_next ms fs) ≡ length ms + length fs
 fold_long ms [] = omega arith
 fold_long ms (x ∷ fs) = omega (arith, fold_long (with_next ms x) fs, length_one ms (meant_of ms x))
 
-pub meanings_long : (fs : List Form) → length (meanings fs) ≡ length fs
+pub meanings_long : (fs : List ValueForm) → length (meanings fs) ≡ length fs
 unfolding meanings
 meanings_long fs = let none : 0 + length fs ≡ length fs = omega arith in fold_long [] fs ∙ none
 
-fold_keeps : (ms : List Meant) (fs : List Form) (k : ℕ) (x : Meant) → slice_get ms k ≡ Some x →
+fold_keeps : (ms : List Meant) (fs : List ValueForm) (k : ℕ) (x : Meant) → slice_get ms k ≡ Some x →
     slice_get (fold with_next ms fs) k ≡ Some x
 fold_keeps ms [] k x e = e
 fold_keeps ms (f ∷ fs) k x e = fold_keeps (with_next ms f) fs k x (get_more ms (meant_of ms f) k x e)
 
-pub meanings_keep : (fs more : List Form) (k : ℕ) (x : Meant) → slice_get (meanings fs) k ≡ Some x →
+pub meanings_keep : (fs more : List ValueForm) (k : ℕ) (x : Meant) → slice_get (meanings fs) k ≡ Some x →
     slice_get (meanings (fs ++ more)) k ≡ Some x
 unfolding meanings
 meanings_keep fs more k x e = ap (λ ms. slice_get ms k) (fold-append with_next [] fs more) ∙
@@ -99,7 +99,7 @@ module _ (ms us : List Meant) (h : Agree ms us) where
   sent_stays (sent.Message i j) b = λ t.
       a_sending (Some (record { chain = chain_of (at b.0 t); message = message_of (at b.1 t) }))
 
-  pub meant_stays : (x : Form) → IsWell ms x → meant_of us x ≡ meant_of ms x
+  pub meant_stays : (x : ValueForm) → IsWell ms x → meant_of us x ≡ meant_of ms x
   meant_stays (forms.Number x) b = λ t. a_number (number_stays x b t)
   meant_stays (forms.Message x) b = λ t. a_message (message_stays x b t)
   meant_stays (forms.Sent x) b = sent_stays x b
@@ -161,26 +161,26 @@ module _ (ms us : List Meant) (h : Agree ms us) where
   sent_well sent.Nothing b = tt
   sent_well (sent.Message i j) b = (chain_kind i b.0, message_kind j b.1)
 
-  pub well_stays : (x : Form) → IsWell ms x → IsWell us x
+  pub well_stays : (x : ValueForm) → IsWell ms x → IsWell us x
   well_stays (forms.Number x) b = number_well x b
   well_stays (forms.Message x) b = message_well x b
   well_stays (forms.Sent x) b = sent_well x b
 
-fold_agrees : (ms : List Meant) (fs : List Form) → Agree ms (fold with_next ms fs)
+fold_agrees : (ms : List Meant) (fs : List ValueForm) → Agree ms (fold with_next ms fs)
 fold_agrees ms fs k lt = let x = some_of ms k lt in fold_keeps ms fs k x.0 x.1 ∙ sym x.1
 
-pub meanings_agree : (fs more : List Form) → Agree (meanings fs) (meanings (fs ++ more))
+pub meanings_agree : (fs more : List ValueForm) → Agree (meanings fs) (meanings (fs ++ more))
 meanings_agree fs more k lt = let x = some_of (meanings fs) k lt in meanings_keep fs more k x.0 x.1 ∙ sym x.1
 
 some_is : {A : Type 0} (y x : A) → Some y ≡ Some x → y ≡ x
 some_is y x e = ap (λ o. unwrap_or o y) e
 
 -- A form, its parts and what it stands for.
-pub record FormIn (us : List Meant) (n : ℕ) (x : Form) : Type 0 where
+pub record FormIn (us : List Meant) (n : ℕ) (x : ValueForm) : Type 0 where
   pub stands : slice_get us n ≡ Some (meant_of us x)
   pub well : IsWell us x
 
-form_in : (ms : List Meant) (fs : List Form) (j n : ℕ) (x : Form) → n ≡ length ms + j → AreWell ms fs →
+form_in : (ms : List Meant) (fs : List ValueForm) (j n : ℕ) (x : ValueForm) → n ≡ length ms + j → AreWell ms fs →
     slice_get fs j ≡ Some x →
     FormIn (fold with_next ms fs) n x
 form_in ms [] j n x e h is = absurd (omega (arith, slice_get_within [] j x is))
@@ -198,22 +198,22 @@ form_in ms (y ∷ fs) (suc j) n x e h is =
     let longer : length (with_next ms y) ≡ suc (length ms) = length_one ms (meant_of ms y) in
     form_in (with_next ms y) fs j n x (omega (arith, e, longer)) h.1 is
 
-pub form_found : (fs : List Form) (k : ℕ) (x : Form) → AreWell [] fs → slice_get fs k ≡ Some x →
+pub form_found : (fs : List ValueForm) (k : ℕ) (x : ValueForm) → AreWell [] fs → slice_get fs k ≡ Some x →
     FormIn (meanings fs) k x
 unfolding meanings
 form_found fs k x h e = let same : k ≡ 0 + k = omega arith in form_in [] fs k k x same h e
 
 -- what a form stands for stays where it is put after its parts
-pub last_stays : (old : List Form) (x : Form) → IsWell (meanings old) x → meant_of (meanings (old ++ x ∷ [])) x ≡
-    meant_of (meanings old) x
+pub last_stays : (old : List ValueForm) (x : ValueForm) → IsWell (meanings old) x →
+    meant_of (meanings (old ++ x ∷ [])) x ≡ meant_of (meanings old) x
 last_stays old x b = meant_stays (meanings old) (meanings (old ++ x ∷ [])) (meanings_agree old (x ∷ [])) x b
 
-well_one : (ms : List Meant) (old : List Form) (x : Form) → AreWell ms old → IsWell (fold with_next ms old) x →
-    AreWell ms (old ++ x ∷ [])
+well_one : (ms : List Meant) (old : List ValueForm) (x : ValueForm) → AreWell ms old →
+    IsWell (fold with_next ms old) x → AreWell ms (old ++ x ∷ [])
 well_one ms [] x h b = (b, tt)
 well_one ms (y ∷ old) x h b = (h.0, well_one (with_next ms y) old x h.1 b)
 
-pub one_after : (old new : List Form) (x : Form) → new ≡ old ++ x ∷ [] → AreWell [] old → IsWell (meanings old) x →
-    AreWell [] new
+pub one_after : (old new : List ValueForm) (x : ValueForm) → new ≡ old ++ x ∷ [] → AreWell [] old →
+    IsWell (meanings old) x → AreWell [] new
 unfolding meanings
 one_after old new x e h b = subst (λ l. AreWell [] l) (sym e) (well_one [] old x h b)

@@ -14,15 +14,15 @@ use Rattle.symbol_compare.specs.declared.form.MessageForm as message_form
 use Rattle.symbol_compare.specs.declared.form.MessageForm.TheVariants as messages
 use Rattle.symbol_compare.specs.declared.form.SentForm as sent_form
 use Rattle.symbol_compare.specs.declared.form.SentForm.TheVariants as sent
-use Rattle.symbol_compare.specs.declared.form.Form.{Form}
-use Rattle.symbol_compare.specs.declared.form.Form.TheVariants as forms
+use Rattle.symbol_compare.specs.declared.form.ValueForm.{ValueForm}
+use Rattle.symbol_compare.specs.declared.form.ValueForm.TheVariants as forms
 use Rattle.symbol_compare.specs.declared.form.ActForm.{ActForm}
 use Rattle.symbol_compare.specs.declared.form.ActForm.TheVariants as acts
 use Rattle.symbol_compare.specs.contracts.form.SeenPartialEq.TheImpl as seen_eq
 use Rattle.symbol_compare.specs.contracts.form.NumberFormPartialEq.TheImpl as number_eq
 use Rattle.symbol_compare.specs.contracts.form.MessageFormPartialEq.TheImpl as message_eq
 use Rattle.symbol_compare.specs.contracts.form.SentFormPartialEq.TheImpl as sent_eq
-use Rattle.symbol_compare.specs.contracts.form.FormPartialEq.TheImpl as form_eq
+use Rattle.symbol_compare.specs.contracts.form.ValueFormPartialEq.TheImpl as form_eq
 use Rattle.symbol_compare.specs.contracts.form.ActFormPartialEq.TheImpl as act_eq
 
 seen_exact : (a b : Seen) → seen_eq.eq-value.it a b ≡ true → a ≡ b
@@ -100,7 +100,7 @@ sent_exact (sent.Message a b) (sent.Message d e) is = let x = and_parts (a == d)
     ap₂ sent.Message (eqb-true a d x.0) (eqb-true b e x.1)
 sent_exact _ _ is = absurd (false≢true is)
 
-pub form_exact : (a b : Form) → form_eq.eq-value.it a b ≡ true → a ≡ b
+pub form_exact : (a b : ValueForm) → form_eq.eq-value.it a b ≡ true → a ≡ b
 form_exact (forms.Number a) (forms.Number b) is = ap forms.Number (number_exact a b is)
 form_exact (forms.Message a) (forms.Message b) is = ap forms.Message (message_exact a b is)
 form_exact (forms.Sent a) (forms.Sent b) is = ap forms.Sent (sent_exact a b is)

@@ -15,7 +15,7 @@ use Rattle.trace_core.specs.Trees.{trace_tree}
 use Rattle.trace_core.specs.declared.operation.Operation.{Operation}
 use Rattle.symbol_mean.specs.Symbolic.{Values, no_values, known_after, number_value, message_value, writes_to, act_of}
 use Rattle.symbol_mean.specs.Symbolic.{acts_of, symbolic}
-use Rattle.symbol_compare.specs.declared.form.Form.{Form}
+use Rattle.symbol_compare.specs.declared.form.ValueForm.{ValueForm}
 use Rattle.symbol_compare.specs.declared.form.ActForm.{ActForm}
 use Rattle.symbol_compare.specs.declared.walk.Walk.{Walk}
 use Rattle.symbol_compare.specs.Counts.{count_in}
@@ -57,7 +57,7 @@ zip_append R [] us (y ∷ ys) vs h g = absurd h
 zip_append R (x ∷ xs) us [] vs h g = absurd h
 zip_append R (x ∷ xs) us (y ∷ ys) vs h g = (h.0, zip_append R xs us ys vs h.1 g)
 
-module _ {a b : List Form} (w u : Walk) (h : Knows a w) (same : u.trace ≡ w.trace) (done : u.done ≡ w.done + 1)
+module _ {a b : List ValueForm} (w u : Walk) (h : Knows a w) (same : u.trace ≡ w.trace) (done : u.done ≡ w.done + 1)
     (takes : u.takes ≡ w.takes) (counts : u.counts ≡ w.counts) where
   pub bind_learns : (k : ℕ) (e : trace.TraceNumber) → u.numbers.items ≡ w.numbers.items ++ k ∷ [] →
       u.messages ≡ w.messages →
@@ -100,7 +100,7 @@ module _ {a b : List Form} (w u : Walk) (h : Knows a w) (same : u.trace ≡ w.tr
   }
 
 -- A write, which may take.
-module _ (fs : List Form) (w u : Walk) (p c many : ℕ) (h : Knows fs w) (x : Wrote w u p c many) where
+module _ (fs : List ValueForm) (w u : Walk) (p c many : ℕ) (h : Knows fs w) (x : Wrote w u p c many) where
   counts_now : (q d : ℕ) → count_in u.counts q d ≡ writes_to ((p, c) ∷ (known_to w).written) q d
   counts_now q d = x.counts.counts q d ∙ ap (λ n. if is_here q d p c then suc n else n) (h.counts q d)
 
@@ -134,7 +134,7 @@ module _ (fs : List Form) (w u : Walk) (p c many : ℕ) (h : Knows fs w) (x : Wr
             (known_to w).written;
       })
 
-pub pass_learns : (fs : List Form) (w u : Walk) (o : trace.Operation) → Knows fs w →
+pub pass_learns : (fs : List ValueForm) (w u : Walk) (o : trace.Operation) → Knows fs w →
     u ≡ record w { done = w.done + 1 } → known_after (known_to w) o ≡ known_to w →
     Learns fs fs w u o
 pass_learns fs w u o h e same = subst (λ z. Learns fs fs w z o) (sym e) (record {
@@ -166,7 +166,8 @@ acts_then w u o there same more = sym (acts_next (trace_tree w.trace.now) w.done
     ∙ (λ t. symbolic (take (sym more t) (trace_tree (sym same t).now)))
 
 -- One more operation is done, and its act put down.
-pub stepped : (a b c : List Form) (w u : Walk) (acts new : List ActForm) (made : Option ActForm) (o : trace.Operation) →
+pub stepped : (a b c : List ValueForm) (w u : Walk) (acts new : List ActForm) (made : Option ActForm)
+    (o : trace.Operation) →
     slice_get (trace_tree w.trace.now) w.done ≡ Some o → Walked a w acts → ActMade a b (act_of (known_to w) o) made →
     Learns b c w u o →
     new ≡ acts ++ option_to_list made → Steps a c w u new
@@ -195,7 +196,7 @@ none_known os n e = ap (λ k. fold known_after no_values (take k os)) e
 none_done : (os : List trace.Operation) (n : ℕ) → n ≡ 0 → [] ≡ symbolic (take n os)
 none_done os n e = ap (λ k. symbolic (take k os)) (sym e)
 
-pub begun : (fs : List Form) (w : Walk) → w.done ≡ 0 → w.numbers.items ≡ [] → w.messages.items ≡ [] → w.takes ≡ 0 →
+pub begun : (fs : List ValueForm) (w : Walk) → w.done ≡ 0 → w.numbers.items ≡ [] → w.messages.items ≡ [] → w.takes ≡ 0 →
     ((p c : ℕ) → count_in w.counts p c ≡ 0) →
     Walked fs w []
 begun fs w done numbers messages takes counts = record {
@@ -215,8 +216,8 @@ pub more_left : (w u : Walk) (n many : ℕ) → u.trace ≡ w.trace → u.done �
 more_left w u n many same done lt long =
     let there = ap (λ r. length r.now.operations.items) same in omega (arith, done, lt, long, there)
 
-pub went : (a b : List Form) (w u : Walk) (acts : List ActForm) (n : ℕ) → Grown a b → u.trace ≡ w.trace → u.done ≡ n →
-    Walked b u acts →
+pub went : (a b : List ValueForm) (w u : Walk) (acts : List ActForm) (n : ℕ) → Grown a b → u.trace ≡ w.trace →
+    u.done ≡ n → Walked b u acts →
     n ≡ length w.trace.now.operations.items → ActsMade a b (symbolic (trace_tree w.trace.now)) acts
 went a b w u acts n g same done h long = record {
   grows = g;
@@ -230,8 +231,8 @@ went a b w u acts n g same done h long = record {
     trace_long w = length-map w.trace.now.operations.items
         (operation_in (terms w.trace.now.nodes) (chains w.trace.now.links))
 
-pub stepped_at : (a b c : List Form) (w u : Walk) (acts new : List ActForm) (made : Option ActForm) (op : Operation)
-    (turn : ℕ) → w.done ≡ turn →
+pub stepped_at : (a b c : List ValueForm) (w u : Walk) (acts new : List ActForm) (made : Option ActForm)
+    (op : Operation) (turn : ℕ) → w.done ≡ turn →
     slice_get w.trace.now.operations.items turn ≡ Some op → Walked a w acts →
     ActMade a b (act_of (known_to w) (operation_in (terms w.trace.now.nodes) (chains w.trace.now.links) op)) made →
     Learns b c w u (operation_in (terms w.trace.now.nodes) (chains w.trace.now.links) op) →

@@ -10,8 +10,8 @@ use Rattle.symbol_mean.specs.Value as value
 use Rattle.symbol_mean.specs.Symbolic.{Values, taken_row}
 use Rattle.trace_core.specs.declared.load.Load.{Load}
 use Rattle.trace_core.specs.View.{load_tree}
-use Rattle.symbol_compare.specs.declared.form.Form.{Form}
-use Rattle.symbol_compare.specs.declared.form.Form.TheVariants as forms
+use Rattle.symbol_compare.specs.declared.form.ValueForm.{ValueForm}
+use Rattle.symbol_compare.specs.declared.form.ValueForm.TheVariants as forms
 use Rattle.symbol_compare.specs.declared.form.NumberForm.TheVariants as numbers
 use Rattle.symbol_compare.specs.declared.form.MessageForm.TheVariants as messages
 use Rattle.symbol_compare.specs.declared.walk.Walk.{Walk}
@@ -39,7 +39,7 @@ zip_none R (z ∷ xs) [] n d h e = absurd h
 zip_none R (z ∷ xs) (y ∷ ys) zero d h e = absurd (cc e)
 zip_none R (z ∷ xs) (y ∷ ys) (suc n) d h e = zip_none R xs ys n d h.1 e
 
-module _ (fs : List Form) (w : Walk) (v : Values) (n : ℕ) (h : KnowsAs fs w v) where
+module _ (fs : List ValueForm) (w : Walk) (v : Values) (n : ℕ) (h : KnowsAs fs w v) where
   pub bound_known : (k : ℕ) → Some k ≡ slice_get w.numbers.items n →
       Made fs fs k (a_number (slice_index_or v.numbers n (value.number 0)))
   bound_known k e = record {
@@ -48,7 +48,7 @@ module _ (fs : List Form) (w : Walk) (v : Values) (n : ℕ) (h : KnowsAs fs w v)
         h.numbers (sym e);
   }
 
-  pub bound_unknown : (new : List Form) (k : ℕ) → None ≡ slice_get w.numbers.items n →
+  pub bound_unknown : (new : List ValueForm) (k : ℕ) → None ≡ slice_get w.numbers.items n →
       Made fs new k (a_number (value.number 0)) →
       Made fs new k (a_number (slice_index_or v.numbers n (value.number 0)))
   bound_unknown new k e m =
@@ -64,7 +64,7 @@ module _ (fs : List Form) (w : Walk) (v : Values) (n : ℕ) (h : KnowsAs fs w v)
         h.messages (sym e);
   }
 
-  pub noted_unknown : (new : List Form) (k : ℕ) → None ≡ slice_get w.messages.items n →
+  pub noted_unknown : (new : List ValueForm) (k : ℕ) → None ≡ slice_get w.messages.items n →
       Made fs new k (a_message value.nothing) →
       Made fs new k (a_message (slice_index_or v.messages n value.nothing))
   noted_unknown new k e m =
@@ -101,7 +101,7 @@ pub taken_message_well : (ms : List Meant) (takes row : ℕ) (load : Load) →
     IsWell ms (forms.Message (taken_message_form takes row load))
 taken_message_well ms takes row load = taken_message_fits ms (nat_lt row takes) row load
 
-module _ (a b : List Form) (i : ℕ) (v : Values) (takes row : ℕ) (same : takes ≡ v.takes) where
+module _ (a b : List ValueForm) (i : ℕ) (v : Values) (takes row : ℕ) (same : takes ≡ v.takes) where
   pub taken_number_made : (k : ℕ) → Made a b i (a_number (number_meant (meanings a) (taken_number_form takes row k))) →
       Made a b i (a_number (value.taken_number (taken_row v row) k))
   taken_number_made k m = made_as m (ap a_number (taken_number_is (meanings a) (nat_lt row takes) row k

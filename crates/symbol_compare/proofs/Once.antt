@@ -21,8 +21,8 @@ use Rattle.symbol_compare.specs.declared.form.NumberForm.TheVariants as numbers
 use Rattle.symbol_compare.specs.declared.form.MessageForm as message_form
 use Rattle.symbol_compare.specs.declared.form.MessageForm.TheVariants as messages
 use Rattle.symbol_compare.specs.declared.form.SentForm.TheVariants as sent
-use Rattle.symbol_compare.specs.declared.form.Form.{Form}
-use Rattle.symbol_compare.specs.declared.form.Form.TheVariants as forms
+use Rattle.symbol_compare.specs.declared.form.ValueForm.{ValueForm}
+use Rattle.symbol_compare.specs.declared.form.ValueForm.TheVariants as forms
 use Rattle.symbol_compare.specs.declared.form.ActForm.{ActForm}
 use Rattle.symbol_compare.specs.declared.form.ActForm.TheVariants as acts
 use Rattle.symbol_compare.specs.Meant.{Meant, a_number, a_message, a_row, a_chain, a_sending, meant_of, meanings}
@@ -96,7 +96,7 @@ same3 ms make a b c x y r q ea eb ec =
     (ec r.three q.three r.third q.third t)) ∙ sym q.is
 
 -- The forms that stand for a value.
-abbrev ReadsNumber : List Meant → NumberValue → Form → Type 0
+abbrev ReadsNumber : List Meant → NumberValue → ValueForm → Type 0
 ReadsNumber ms (value.number n) x = x ≡ forms.Number (numbers.Number n)
 ReadsNumber ms value.peer x = x ≡ forms.Number numbers.Peer
 ReadsNumber ms (value.field n) x = x ≡ forms.Number (numbers.Field n)
@@ -118,7 +118,7 @@ ReadsNumber ms (value.apply f a) x = Reads1 ms (λ i. forms.Number (numbers.Appl
 ReadsNumber ms (value.pick a b c) x = Reads3 ms (λ i j k. forms.Number (numbers.Pick i j k)) (a_number a) (a_number b)
     (a_number c) x
 
-abbrev ReadsMessage : List Meant → MessageValue → Form → Type 0
+abbrev ReadsMessage : List Meant → MessageValue → ValueForm → Type 0
 ReadsMessage ms value.body x = x ≡ forms.Message messages.Body
 ReadsMessage ms value.nothing x = x ≡ forms.Message messages.Nothing
 ReadsMessage ms (value.taken_message (Some row) r) x = x ≡ forms.Message (messages.Taken row (load_back r))
@@ -130,7 +130,7 @@ ReadsMessage ms (value.cut m a b) x = Reads3 ms (λ i j k. forms.Message (messag
 ReadsMessage ms (value.tail m a) x = Reads2 ms (λ i j. forms.Message (messages.Tail i j)) (a_message m) (a_number a) x
 ReadsMessage ms (value.join m n) x = Reads2 ms (λ i j. forms.Message (messages.Join i j)) (a_message m) (a_message n) x
 
-abbrev Reads : List Meant → Meant → Form → Type 0
+abbrev Reads : List Meant → Meant → ValueForm → Type 0
 Reads ms (a_number v) x = ReadsNumber ms v x
 Reads ms (a_message v) x = ReadsMessage ms v x
 Reads ms (a_row []) x = x ≡ forms.Sent sent.NoNumbers
@@ -183,7 +183,7 @@ message_reads ms (messages.Cut i j k) b =
 message_reads ms (messages.Tail i j) b = record { one = i; two = j; is = refl; first = b.0; second = b.1 }
 message_reads ms (messages.Join i j) b = record { one = i; two = j; is = refl; first = b.0; second = b.1 }
 
-form_reads : (ms : List Meant) (x : Form) → IsWell ms x → Reads ms (meant_of ms x) x
+form_reads : (ms : List Meant) (x : ValueForm) → IsWell ms x → Reads ms (meant_of ms x) x
 form_reads ms (forms.Number x) b = number_reads ms x b
 form_reads ms (forms.Message x) b = message_reads ms x b
 form_reads ms (forms.Sent sent.NoNumbers) b = refl
@@ -197,15 +197,15 @@ some_is : {A : Type 0} (y x : A) → Some y ≡ Some x → y ≡ x
 some_is y x e = ap (λ o. unwrap_or o y) e
 
 -- In a table of which no form comes twice.
-module _ (fs : List Form) (w : AreWell [] fs) (u : AreOne fs) where
+module _ (fs : List ValueForm) (w : AreWell [] fs) (u : AreOne fs) where
   abbrev ms : List Meant
   ms = meanings fs
 
   abbrev Same : Meant → Type 0
-  Same v = (x y : Form) → Reads ms v x → Reads ms v y → x ≡ y
+  Same v = (x y : ValueForm) → Reads ms v x → Reads ms v y → x ≡ y
 
   record Found (k : ℕ) (v : Meant) : Type 0 where
-    pub form : Form
+    pub form : ValueForm
     pub there : slice_get fs k ≡ Some form
     pub reads : Reads ms v form
 

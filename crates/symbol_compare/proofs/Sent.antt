@@ -14,7 +14,7 @@ use Rattle.trace_core.specs.declared.node.Atom.TheVariants as atoms
 use Rattle.trace_core.specs.declared.links.Link.{Link}
 use Rattle.symbol_mean.specs.Symbolic.{Values, atom_value, link_value}
 use Rattle.symbol_mean.specs.Value.{NumberValue, MessageValue, LinkValue}
-use Rattle.symbol_compare.specs.declared.form.Form.{Form}
+use Rattle.symbol_compare.specs.declared.form.ValueForm.{ValueForm}
 use Rattle.symbol_compare.specs.declared.walk.Walk.{Walk}
 use Rattle.symbol_compare.specs.Meant.{Meant, a_number, a_message, a_row, a_chain, a_sending, row_of, chain_of}
 use Rattle.symbol_compare.specs.Meant.{number_in}
@@ -39,13 +39,13 @@ pub length_more : {A : Type 0} (xs : List A) (x : A) (many : ℕ) → 1 ≤ many
 length_more xs x many pos e = omega (arith, length_one xs x, pos, e)
 
 -- What some nodes mean.
-pub none_all : (fs : List Form) (f : ℕ → Meant) (parts : List ℕ) (many : ℕ) → many ≡ 0 → (ks : List ℕ) → ks ≡ [] →
+pub none_all : (fs : List ValueForm) (f : ℕ → Meant) (parts : List ℕ) (many : ℕ) → many ≡ 0 → (ks : List ℕ) → ks ≡ [] →
     AllMade fs fs (map f (take many parts)) many ks
 none_all fs f parts many zero_many ks e = subst (λ l. AllMade fs fs (map f (take many parts)) many l) (sym e)
     (subst (λ n. AllMade fs fs (map f (take n parts)) n []) (sym zero_many)
     (record { grows = not_grown fs; stand = tt; long = refl }))
 
-pub next_all : {a b c : List Form} (f : ℕ → Meant) (parts ks js : List ℕ) (many k p : ℕ) → 1 ≤ many →
+pub next_all : {a b c : List ValueForm} (f : ℕ → Meant) (parts ks js : List ℕ) (many k p : ℕ) → 1 ≤ many →
     many ≤ length parts → p ≡ slice_index parts (many - 1) →
     AllMade a b (map f (take (many - 1) parts)) (many - 1) ks → Made b c k (f p) → js ≡ ks ++ k ∷ [] →
     AllMade a c (map f (take many parts)) many js
@@ -64,14 +64,14 @@ next_all {a} {b} {c} f parts ks js many k p pos le e h m j = subst (λ l. AllMad
         ∙ ap (map f) (sym (one_more parts many 0 pos le))
 
 -- The values of some atoms.
-pub none_some : (fs : List Form) (v : Values) (atoms : List Atom) (many : ℕ) → many ≡ 0 → (ks : List ℕ) → ks ≡ [] →
+pub none_some : (fs : List ValueForm) (v : Values) (atoms : List Atom) (many : ℕ) → many ≡ 0 → (ks : List ℕ) → ks ≡ [] →
     SomeMade fs fs (map (atom_value v) (map atom_tree (take many atoms))) many ks
 none_some fs v atoms many zero_many ks e =
     subst (λ l. SomeMade fs fs (map (atom_value v) (map atom_tree (take many atoms))) many l) (sym e)
     (subst (λ n. SomeMade fs fs (map (atom_value v) (map atom_tree (take n atoms))) n []) (sym zero_many)
     (record { grows = not_grown fs; stand = tt; long = refl }))
 
-pub next_some : {a b c : List Form} (v : Values) (atoms : List Atom) (ks js : List ℕ) (many k : ℕ) (p d : Atom) →
+pub next_some : {a b c : List ValueForm} (v : Values) (atoms : List Atom) (ks js : List ℕ) (many k : ℕ) (p d : Atom) →
     1 ≤ many → many ≤ length atoms →
     p ≡ slice_index_or atoms (many - 1) d →
     SomeMade a b (map (atom_value v) (map atom_tree (take (many - 1) atoms))) (many - 1) ks →
@@ -116,7 +116,7 @@ numbers_are ms (k ∷ ks) [] h = absurd h
 numbers_are ms (k ∷ ks) (x ∷ xs) h = λ t. number_is h.0 t ∷ numbers_are ms ks xs h.1 t
 
 -- Rows, from their ends.
-pub row_end : {a b : List Form} {k : ℕ} (ks : List ℕ) (first : ℕ) → length ks ≤ first → Made a b k (a_row []) →
+pub row_end : {a b : List ValueForm} {k : ℕ} (ks : List ℕ) (first : ℕ) → length ks ≤ first → Made a b k (a_row []) →
     Made a b k (a_row (map (number_in (meanings a)) (drop first ks)))
 row_end {a} {b} {k} ks first le m =
     made_as m (ap (λ l. a_row (map (number_in (meanings a)) l)) (sym (drop_all first ks le)))
@@ -127,7 +127,7 @@ row_there {ms} {k} s = subst (λ l. Stands ms k (a_row l)) (sym (ap row_of s.sta
 pub chain_there : {ms : List Meant} {k : ℕ} {xs : List LinkValue} → Stands ms k (a_chain xs) → IsChain ms k
 chain_there {ms} {k} s = subst (λ l. Stands ms k (a_chain l)) (sym (ap chain_of s.stands)) s
 
-pub row_next : {a b c : List Form} {k r : ℕ} (ks : List ℕ) (first x : ℕ) → first < length ks →
+pub row_next : {a b c : List ValueForm} {k r : ℕ} (ks : List ℕ) (first x : ℕ) → first < length ks →
     AllNumbers (meanings a) ks → x ≡ slice_index ks first →
     Made a b r (a_row (map (number_in (meanings a)) (drop (first + 1) ks))) →
     Made b c k (a_row (number_in (meanings b) x ∷ row_in (meanings b) r)) →
@@ -147,11 +147,11 @@ row_next {a} {b} {c} {k} {r} ks first x lt h e rest m = made_as (made_after rest
         ∙ ap (λ l. a_row (map (number_in (meanings a)) l)) (sym (drop-cons ks first 0 lt))
 
 -- Chains and messages.
-pub chain_end : {a b : List Form} {k : ℕ} (v : Values) (ls : List trace.Link) → ls ≡ [] → Made a b k (a_chain []) →
+pub chain_end : {a b : List ValueForm} {k : ℕ} (v : Values) (ls : List trace.Link) → ls ≡ [] → Made a b k (a_chain []) →
     Made a b k (a_chain (map (link_value v) ls))
 chain_end v ls e m = made_as m (ap (λ l. a_chain (map (link_value v) l)) (sym e))
 
-pub chain_next : {a b c d : List Form} {k r f : ℕ} (v : Values) (ls rest : List trace.Link) (l : Link) →
+pub chain_next : {a b c d : List ValueForm} {k r f : ℕ} (v : Values) (ls rest : List trace.Link) (l : Link) →
     ls ≡ link_tree l ∷ rest →
     Made a b r (a_chain (map (link_value v) rest)) → Made b c f (a_row (map (atom_value v) (map atom_tree l.fields))) →
     Made c d k (a_chain (record { place = l.place; tag = l.tag; fields = row_in (meanings c) f } ∷ chain_in
@@ -162,7 +162,7 @@ chain_next {a} {b} {c} {d} {k} {r} {f} v ls rest l e mr mf m = made_as (made_aft
     ap chain_of (stands_grown mf.grows mr.stands).stands t))
     ∙ ap (λ x. a_chain (map (link_value v) x)) (sym e))
 
-pub message_sent : {a b c d : List Form} {k i j : ℕ} {ls : List LinkValue} {x : MessageValue} →
+pub message_sent : {a b c d : List ValueForm} {k i j : ℕ} {ls : List LinkValue} {x : MessageValue} →
     Made a b i (a_chain ls) → Made b c j (a_message x) →
     Made c d k (a_sending (Some (record { chain = chain_in (meanings c) i; message = message_in (meanings c) j }))) →
     Made a d k (a_sending (Some (record { chain = ls; message = x })))
@@ -171,18 +171,18 @@ message_sent ml mx m = made_as (made_after (grown_on ml.grows mx.grows) m)
     (record { chain = ap chain_of (stands_grown mx.grows ml.stands).stands t; message = message_is mx.stands t })))
 
 -- What was made stays there.
-pub number_kept : {a b : List Form} {r x : ℕ} {y : Meant} (ks : List ℕ) (first : ℕ) → first < length ks →
+pub number_kept : {a b : List ValueForm} {r x : ℕ} {y : Meant} (ks : List ℕ) (first : ℕ) → first < length ks →
     AllNumbers (meanings a) ks → x ≡ slice_index ks first →
     Made a b r y → IsNumber (meanings b) x
 number_kept {a} {b} {r} {x} ks first lt h e m =
     number_there (stands_grown m.grows (number_of_all (meanings a) ks x first h lt e))
 
-pub chain_later : {a b c : List Form} {k j : ℕ} {xs : List LinkValue} {y : Meant} → Made a b k (a_chain xs) →
+pub chain_later : {a b c : List ValueForm} {k j : ℕ} {xs : List LinkValue} {y : Meant} → Made a b k (a_chain xs) →
     Made b c j y → IsChain (meanings c) k
 chain_later m n = chain_there (stands_grown n.grows m.stands)
 
-pub row_of_numbers : {a b c : List Form} {r many : ℕ} {xs : List NumberValue} (ks : List ℕ) → SomeMade a b xs many ks →
-    Made b c r (a_row (map (number_in (meanings b)) ks)) → Made a c r (a_row xs)
+pub row_of_numbers : {a b c : List ValueForm} {r many : ℕ} {xs : List NumberValue} (ks : List ℕ) →
+    SomeMade a b xs many ks → Made b c r (a_row (map (number_in (meanings b)) ks)) → Made a c r (a_row xs)
 row_of_numbers {a} {b} {c} {r} {many} {xs} ks m n =
     made_as (made_after m.grows n) (ap a_row (numbers_are (meanings b) ks xs m.stand))
 
@@ -192,8 +192,8 @@ no_atom [] n e = sym (get_or_past [] n (atoms.Number 0) (omega arith))
 no_atom (x ∷ xs) zero e = absurd (cc e)
 no_atom (x ∷ xs) (suc n) e = no_atom xs n e
 
-pub row_of_atoms : {a b c : List Form} {r : ℕ} (w : Walk) (xs : List Atom) (many : ℕ) (ks : List ℕ) → many ≡ length xs →
-    SomeMade a b (map (atom_value (known_to w)) (map atom_tree (take many xs))) many ks →
+pub row_of_atoms : {a b c : List ValueForm} {r : ℕ} (w : Walk) (xs : List Atom) (many : ℕ) (ks : List ℕ) →
+    many ≡ length xs → SomeMade a b (map (atom_value (known_to w)) (map atom_tree (take many xs))) many ks →
     Made b c r (a_row (map (number_in (meanings b)) ks)) →
     Made a c r (a_row (map (atom_value (known_to w)) (map atom_tree xs)))
 row_of_atoms w xs many ks e m n = made_as (row_of_numbers ks m n)

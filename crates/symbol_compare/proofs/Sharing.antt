@@ -5,27 +5,27 @@ use Rattle.std.proofs.lemmas.List.{append-nil}
 use Rattle.std.specs.List.{slice_get}
 use Rattle.std.specs.Prelude.{if◌then◌else◌}
 use Rattle.trace_core.proofs.Terms.{length_one}
-use Rattle.symbol_compare.specs.declared.form.Form.{Form}
+use Rattle.symbol_compare.specs.declared.form.ValueForm.{ValueForm}
 use Rattle.symbol_compare.specs.declared.table.TheConstants.{MOST_VALUES}
 use Rattle.symbol_compare.specs.Meant.{meant_of, meanings}
 use Rattle.symbol_compare.specs.Table.{IsWell, AreWell, Made}
 use Rattle.symbol_compare.specs.Set.{IsPut, Puts}
 use Rattle.symbol_compare.proofs.Earlier.{form_found, last_stays, one_after}
 
-pub key_put : (b : Bool) (old new : List Form) (x : Form) → new ≡ (if b then old else old ++ x ∷ []) →
+pub key_put : (b : Bool) (old new : List ValueForm) (x : ValueForm) → new ≡ (if b then old else old ++ x ∷ []) →
     (new ≡ old) ⊎ (new ≡ old ++ x ∷ [])
 key_put true old new x e = inl e
 key_put false old new x e = inr e
 
-pub put_well : (old new : List Form) (x : Form) (k : ℕ) → IsPut old new x k → AreWell [] old → IsWell (meanings old) x →
-    AreWell [] new
+pub put_well : (old new : List ValueForm) (x : ValueForm) (k : ℕ) → IsPut old new x k → AreWell [] old →
+    IsWell (meanings old) x → AreWell [] new
 put_well old new x k put h b = go put.grown where
   go : (new ≡ old) ⊎ (new ≡ old ++ x ∷ []) → AreWell [] new
   go (inl e) = subst (λ l. AreWell [] l) (sym e) h
   go (inr e) = one_after old new x e h b
 
-pub put_made : (old new : List Form) (x : Form) (k : ℕ) → IsPut old new x k → AreWell [] old → IsWell (meanings old) x →
-    Made old new k (meant_of (meanings old) x)
+pub put_made : (old new : List ValueForm) (x : ValueForm) (k : ℕ) → IsPut old new x k → AreWell [] old →
+    IsWell (meanings old) x → Made old new k (meant_of (meanings old) x)
 put_made old new x k put h b = go put.grown where
   go : (new ≡ old) ⊎ (new ≡ old ++ x ∷ []) → Made old new k (meant_of (meanings old) x)
   go (inl e) = record {
@@ -43,8 +43,8 @@ put_made old new x k put h b = go put.grown where
     };
   }
 
-pub puts_well : {E : Type 0} (old new : List Form) (x : Form) (r : Result ℕ E) → Puts old new x r → AreWell [] old →
-    IsWell (meanings old) x →
+pub puts_well : {E : Type 0} (old new : List ValueForm) (x : ValueForm) (r : Result ℕ E) → Puts old new x r →
+    AreWell [] old → IsWell (meanings old) x →
     length old < MOST_VALUES → (length new ≤ MOST_VALUES) × AreWell [] new
 puts_well old new x (Ok k) put h b few = (long put.grown, put_well old new x k put h b) where
   long : (new ≡ old) ⊎ (new ≡ old ++ x ∷ []) → length new ≤ MOST_VALUES

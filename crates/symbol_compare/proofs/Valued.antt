@@ -17,7 +17,7 @@ use Rattle.trace_core.specs.Operations as operations
 use Rattle.trace_core.proofs.Terms.{terms_long}
 use Rattle.symbol_mean.specs.Symbolic.{atom_value, core_value, number_value, message_value}
 use Rattle.symbol_compare.specs.declared.sort.Sort.TheVariants as sorts
-use Rattle.symbol_compare.specs.declared.form.Form.{Form}
+use Rattle.symbol_compare.specs.declared.form.ValueForm.{ValueForm}
 use Rattle.symbol_compare.specs.declared.walk.Walk.{Walk}
 use Rattle.symbol_compare.specs.Meant.{Meant, a_number, a_message, meant_of, meanings}
 use Rattle.symbol_compare.specs.Table.{Stands, IsWell, Made}
@@ -35,14 +35,14 @@ node_meant : (w : Walk) (node : ℕ) (x : Node) → slice_get (terms_of w) node 
     meant_at w node ≡ meant_by (known_to w) (term_of (terms_of w) x)
 node_meant w node x e = ap (λ o. meant_by (known_to w) (unwrap_or o (term.a_number (trace.atom (trace.number 0))))) e
 
-pub atom_meant : {a b : List Form} {k : ℕ} (w : Walk) (node : ℕ) (x : Node) (i : atom.Atom) →
+pub atom_meant : {a b : List ValueForm} {k : ℕ} (w : Walk) (node : ℕ) (x : Node) (i : atom.Atom) →
     slice_get (terms_of w) node ≡ Some (term_of (terms_of w) x) →
     sorts.Number i ≡ sort_of x → Made a b k (a_number (atom_value (known_to w) (atom_tree i))) →
     Made a b k (meant_at w node)
 atom_meant w node x i e s m = made_as m
     (sym (node_meant w node x e ∙ ap (λ y. meant_by (known_to w) (term_of (terms_of w) y)) (atom_sort x i s)))
 
-pub core_meant : {a b : List Form} {k : ℕ} (w : Walk) (node : ℕ) (x : Node) (i : core.Core) →
+pub core_meant : {a b : List ValueForm} {k : ℕ} (w : Walk) (node : ℕ) (x : Node) (i : core.Core) →
     slice_get (terms_of w) node ≡ Some (term_of (terms_of w) x) →
     sorts.Message i ≡ sort_of x → Made a b k (a_message (core_value (known_to w) (core_tree i))) →
     Made a b k (meant_at w node)
@@ -50,7 +50,7 @@ core_meant w node x i e s m = made_as m
     (sym (node_meant w node x e ∙ ap (λ y. meant_by (known_to w) (term_of (terms_of w) y)) (core_sort x i s)))
 
 -- A form that is made of the values of a node's parts.
-pub record FormMade (fs : List Form) (w : Walk) (node : ℕ) (f : Form) : Type 0 where
+pub record FormMade (fs : List ValueForm) (w : Walk) (node : ℕ) (f : ValueForm) : Type 0 where
   pub well : IsWell (meanings fs) f
   pub is : meant_of (meanings fs) f ≡ meant_at w node
 
@@ -58,8 +58,8 @@ all_parts : (w : Walk) (many : ℕ) (parts : List ℕ) (x : Node) → parts ≡ 
     map (meant_at w) (take many parts) ≡ map (meant_at w) (parts_of x)
 all_parts w many parts x p n = ap (map (meant_at w)) (take_all many parts (omega (arith, n)) ∙ p)
 
-pub form_made : {a b : List Form} (w : Walk) (node many : ℕ) (x : Node) (parts ks : List ℕ) (f : Form) → Knows a w →
-    slice_get (terms_of w) node ≡ Some (term_of (terms_of w) x) → arena.IsWell (terms_of w) x →
+pub form_made : {a b : List ValueForm} (w : Walk) (node many : ℕ) (x : Node) (parts ks : List ℕ) (f : ValueForm) →
+    Knows a w → slice_get (terms_of w) node ≡ Some (term_of (terms_of w) x) → arena.IsWell (terms_of w) x →
     sorts.Parts ≡ sort_of x →
     parts ≡ parts_of x → many ≡ length parts → AllMade a b (map (meant_at w) (take many parts)) many ks →
     f ≡ form_of (seen_in w.counts) x ks →
@@ -73,8 +73,8 @@ form_made {a} {b} w node many x parts ks f h e well s p n m i =
       is = ap (meant_of (meanings b)) i ∙ made.is ∙ sym (node_meant w node x e);
     }
 
-pub form_meant : {a b c : List Form} {k many : ℕ} {xs : List Meant} {ks : List ℕ} (w : Walk) (node : ℕ) (f : Form) →
-    AllMade a b xs many ks →
+pub form_meant : {a b c : List ValueForm} {k many : ℕ} {xs : List Meant} {ks : List ℕ} (w : Walk) (node : ℕ)
+    (f : ValueForm) → AllMade a b xs many ks →
     FormMade b w node f → Made b c k (meant_of (meanings b) f) → Made a c k (meant_at w node)
 form_meant w node f m i made = made_as (made_after m.grows made) i.is
 
@@ -95,12 +95,12 @@ number_within w k h = omega (arith, slice_get_within (terms_of w) k _ h.stands, 
 pub message_within : (w : Walk) (k : ℕ) → arena.IsMessage (terms_of w) k → k < length w.trace.now.nodes
 message_within w k h = omega (arith, slice_get_within (terms_of w) k _ h.stands, terms_long w.trace.now.nodes)
 
-pub number_of_node : {a b : List Form} {k : ℕ} (w : Walk) (node : ℕ) → arena.IsNumber (terms_of w) node →
+pub number_of_node : {a b : List ValueForm} {k : ℕ} (w : Walk) (node : ℕ) → arena.IsNumber (terms_of w) node →
     Made a b k (meant_at w node) →
     Made a b k (a_number (number_value (known_to w) (term.number_in (terms_of w) node)))
 number_of_node {a} {b} w node h m = made_as m (number_meant_is (terms_of w) (meanings b) (known_to w) node h)
 
-pub message_of_node : {a b : List Form} {k : ℕ} (w : Walk) (node : ℕ) → arena.IsMessage (terms_of w) node →
+pub message_of_node : {a b : List ValueForm} {k : ℕ} (w : Walk) (node : ℕ) → arena.IsMessage (terms_of w) node →
     Made a b k (meant_at w node) →
     Made a b k (a_message (message_value (known_to w) (term.message_in (terms_of w) node)))
 message_of_node {a} {b} w node h m = made_as m (message_meant_is (terms_of w) (meanings b) (known_to w) node h)
@@ -116,7 +116,7 @@ all_numbers w ms (n ∷ nodes) (k ∷ ks) h m = (
   all_numbers w ms nodes ks h.1 m.1,
 )
 
-pub numbers_of_nodes : {a b : List Form} (w : Walk) (nodes ks : List ℕ) (many : ℕ) →
+pub numbers_of_nodes : {a b : List ValueForm} (w : Walk) (nodes ks : List ℕ) (many : ℕ) →
     operations.AllNumbers (terms_of w) nodes → many ≡ length nodes →
     AllMade a b (map (meant_at w) (take many nodes)) many ks →
     NumbersMade a b (map (number_value (known_to w)) (map (term.number_in (terms_of w)) nodes)) ks

@@ -11,8 +11,8 @@ use Rattle.symbol_compare.specs.declared.form.MessageForm as message_form
 use Rattle.symbol_compare.specs.declared.form.MessageForm.TheVariants as messages
 use Rattle.symbol_compare.specs.declared.form.SentForm as sent_form
 use Rattle.symbol_compare.specs.declared.form.SentForm.TheVariants as sent
-use Rattle.symbol_compare.specs.declared.form.Form.{Form}
-use Rattle.symbol_compare.specs.declared.form.Form.TheVariants as forms
+use Rattle.symbol_compare.specs.declared.form.ValueForm.{ValueForm}
+use Rattle.symbol_compare.specs.declared.form.ValueForm.TheVariants as forms
 use Rattle.symbol_compare.specs.declared.form.ActForm.{ActForm}
 use Rattle.symbol_compare.specs.declared.form.ActForm.TheVariants as acts
 
@@ -104,16 +104,16 @@ sent_meant ms sent.Nothing = a_sending None
 sent_meant ms (sent.Message chain message) =
     a_sending (Some (record { chain = chain_in ms chain; message = message_in ms message }))
 
-abbrev pub meant_of : List Meant → Form → Meant
+abbrev pub meant_of : List Meant → ValueForm → Meant
 meant_of ms (forms.Number x) = a_number (number_meant ms x)
 meant_of ms (forms.Message x) = a_message (message_meant ms x)
 meant_of ms (forms.Sent x) = sent_meant ms x
 
-abbrev pub with_next : List Meant → Form → List Meant
+abbrev pub with_next : List Meant → ValueForm → List Meant
 with_next ms x = ms ++ meant_of ms x ∷ []
 
 -- What each of some forms stands for.
-unfoldable pub meanings : List Form → List Meant
+unfoldable pub meanings : List ValueForm → List Meant
 meanings fs = fold with_next [] fs
 
 -- The act of which these are the numbers.

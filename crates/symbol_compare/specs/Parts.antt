@@ -7,8 +7,8 @@ use Rattle.symbol_compare.specs.declared.sort.Sort.{Sort}
 use Rattle.symbol_compare.specs.declared.sort.Sort.TheVariants as sorts
 use Rattle.symbol_compare.specs.declared.counts.Counts.{Counts}
 use Rattle.symbol_compare.specs.declared.form.Seen.{Seen}
-use Rattle.symbol_compare.specs.declared.form.Form.{Form}
-use Rattle.symbol_compare.specs.declared.form.Form.TheVariants as forms
+use Rattle.symbol_compare.specs.declared.form.ValueForm.{ValueForm}
+use Rattle.symbol_compare.specs.declared.form.ValueForm.TheVariants as forms
 use Rattle.symbol_compare.specs.declared.form.NumberForm.TheVariants as numbers
 use Rattle.symbol_compare.specs.declared.form.MessageForm.TheVariants as messages
 use Rattle.symbol_compare.specs.Counts.{count_in}
@@ -41,7 +41,7 @@ abbrev pub seen_in : Counts → ℕ → ℕ → Seen
 seen_in counts p c = record { place = p; cell = c; writes = count_in counts p c }
 
 -- The form of a node whose parts have these values, with its cell as `seen` has it.
-abbrev pub form_of : (ℕ → ℕ → Seen) → Node → List ℕ → Form
+abbrev pub form_of : (ℕ → ℕ → Seen) → Node → List ℕ → ValueForm
 form_of seen nodes.Me vs = forms.Number numbers.Me
 form_of seen nodes.Count vs = forms.Number numbers.Count
 form_of seen nodes.Ltime vs = forms.Number numbers.Ltime

@@ -7,8 +7,8 @@ use Rattle.symbol_compare.specs.declared.form.MessageForm as message_form
 use Rattle.symbol_compare.specs.declared.form.MessageForm.TheVariants as messages
 use Rattle.symbol_compare.specs.declared.form.SentForm as sent_form
 use Rattle.symbol_compare.specs.declared.form.SentForm.TheVariants as sent
-use Rattle.symbol_compare.specs.declared.form.Form.{Form}
-use Rattle.symbol_compare.specs.declared.form.Form.TheVariants as forms
+use Rattle.symbol_compare.specs.declared.form.ValueForm.{ValueForm}
+use Rattle.symbol_compare.specs.declared.form.ValueForm.TheVariants as forms
 use Rattle.symbol_compare.specs.declared.form.ActForm.{ActForm}
 use Rattle.symbol_compare.specs.declared.form.ActForm.TheVariants as acts
 use Rattle.symbol_compare.specs.Meant.{Meant, a_number, a_message, a_row, a_chain, a_sending, number_in, message_in}
@@ -59,13 +59,13 @@ IsWellSent ms (sent.Link place tag fields rest) = IsRow ms fields × IsChain ms 
 IsWellSent ms (sent.Message chain message) = IsChain ms chain × IsMessage ms message
 IsWellSent ms _ = Unit {0}
 
-abbrev pub IsWell : List Meant → Form → Type 0
+abbrev pub IsWell : List Meant → ValueForm → Type 0
 IsWell ms (forms.Number x) = IsWellNumber ms x
 IsWell ms (forms.Message x) = IsWellMessage ms x
 IsWell ms (forms.Sent x) = IsWellSent ms x
 
 -- Each form's parts are before it.
-abbrev pub AreWell : List Meant → List Form → Type 0
+abbrev pub AreWell : List Meant → List ValueForm → Type 0
 AreWell ms [] = Unit {0}
 AreWell ms (x ∷ xs) = IsWell ms x × AreWell (with_next ms x) xs
 
@@ -79,15 +79,15 @@ IsWellAct ms (acts.Take place cell index) = IsNumber ms index
 IsWellAct ms (acts.Output dir kind row message) = IsRow ms row × IsSending ms message
 
 -- Forms were added.
-pub record Grown (old new : List Form) : Type 0 where
-  pub more : List Form
+pub record Grown (old new : List ValueForm) : Type 0 where
+  pub more : List ValueForm
   pub grown : new ≡ old ++ more
 
 -- Forms were added, and the one of this number stands for this.
-pub record Made (old new : List Form) (k : ℕ) (x : Meant) : Type 0 where
+pub record Made (old new : List ValueForm) (k : ℕ) (x : Meant) : Type 0 where
   pub grows : Grown old new
   pub stands : Stands (meanings new) k x
 
-abbrev pub Makes : List Form → List Form → Meant → {E : Type 0} → Result ℕ E → Type 0
+abbrev pub Makes : List ValueForm → List ValueForm → Meant → {E : Type 0} → Result ℕ E → Type 0
 Makes old new x (Ok k) = Made old new k x
 Makes old new x (Err e) = Unit {0}

@@ -8,7 +8,7 @@ use Rattle.trace_core.specs.View as term
 use Rattle.trace_core.specs.Trees.{trace_tree}
 use Rattle.symbol_mean.specs.Value.{NumberValue, MessageValue, Act}
 use Rattle.symbol_mean.specs.Symbolic.{Values, no_values, known_after, number_value, message_value, writes_to}
-use Rattle.symbol_compare.specs.declared.form.Form.{Form}
+use Rattle.symbol_compare.specs.declared.form.ValueForm.{ValueForm}
 use Rattle.symbol_compare.specs.declared.form.ActForm.{ActForm}
 use Rattle.symbol_compare.specs.declared.walk.Walk.{Walk}
 use Rattle.symbol_compare.specs.Counts.{count_in}
@@ -41,39 +41,40 @@ abbrev pub AreMessages : List Meant → List ℕ → List MessageValue → Type 
 AreMessages ms ks xs = AllZip (λ k x. Stands ms k (a_message x)) ks xs
 
 -- A walk knows these values.
-pub record KnowsAs (fs : List Form) (w : Walk) (v : Values) : Type 0 where
+pub record KnowsAs (fs : List ValueForm) (w : Walk) (v : Values) : Type 0 where
   pub numbers : AreNumbers (meanings fs) w.numbers.items v.numbers
   pub messages : AreMessages (meanings fs) w.messages.items v.messages
   pub takes : w.takes ≡ v.takes
   pub counts : (p c : ℕ) → count_in w.counts p c ≡ writes_to v.written p c
 
-abbrev pub Knows : List Form → Walk → Type 0
+abbrev pub Knows : List ValueForm → Walk → Type 0
 Knows fs w = KnowsAs fs w (known_to w)
 
 -- `many` values were made.
-pub record AllMade (old new : List Form) (xs : List Meant) (many : ℕ) (ks : List ℕ) : Type 0 where
+pub record AllMade (old new : List ValueForm) (xs : List Meant) (many : ℕ) (ks : List ℕ) : Type 0 where
   pub grows : Grown old new
   pub stand : AllZip (Stands (meanings new)) ks xs
   pub long : length ks ≡ many
 
-abbrev pub MakesAll : List Form → List Form → List Meant → ℕ → {E : Type 0} → Result (List ℕ) E → Type 0
+abbrev pub MakesAll : List ValueForm → List ValueForm → List Meant → ℕ → {E : Type 0} → Result (List ℕ) E → Type 0
 MakesAll old new xs many (Ok ks) = AllMade old new xs many ks
 MakesAll old new xs many (Err e) = Unit {0}
 
-pub record NumbersMade (old new : List Form) (xs : List NumberValue) (ks : List ℕ) : Type 0 where
+pub record NumbersMade (old new : List ValueForm) (xs : List NumberValue) (ks : List ℕ) : Type 0 where
   pub grows : Grown old new
   pub stand : AreNumbers (meanings new) ks xs
 
-abbrev pub MakesNumbers : List Form → List Form → List NumberValue → {E : Type 0} → Result (List ℕ) E → Type 0
+abbrev pub MakesNumbers : List ValueForm → List ValueForm → List NumberValue → {E : Type 0} → Result (List ℕ) E → Type 0
 MakesNumbers old new xs (Ok ks) = NumbersMade old new xs ks
 MakesNumbers old new xs (Err e) = Unit {0}
 
-pub record SomeMade (old new : List Form) (xs : List NumberValue) (many : ℕ) (ks : List ℕ) : Type 0 where
+pub record SomeMade (old new : List ValueForm) (xs : List NumberValue) (many : ℕ) (ks : List ℕ) : Type 0 where
   pub grows : Grown old new
   pub stand : AreNumbers (meanings new) ks xs
   pub long : length ks ≡ many
 
-abbrev pub MakesSome : List Form → List Form → List NumberValue → ℕ → {E : Type 0} → Result (List ℕ) E → Type 0
+abbrev pub MakesSome : List ValueForm → List ValueForm → List NumberValue → ℕ → {E : Type 0} → Result (List ℕ) E →
+    Type 0
 MakesSome old new xs many (Ok ks) = SomeMade old new xs many ks
 MakesSome old new xs many (Err e) = Unit {0}
 
@@ -87,16 +88,16 @@ pub record ActStands (ms : List Meant) (x : ActForm) (a : Act) : Type 0 where
   pub well : IsWellAct ms x
   pub is : act_in ms x ≡ a
 
-pub record ActMade (old new : List Form) (does : List Act) (x : Option ActForm) : Type 0 where
+pub record ActMade (old new : List ValueForm) (does : List Act) (x : Option ActForm) : Type 0 where
   pub grows : Grown old new
   pub stand : AllZip (ActStands (meanings new)) (option_to_list x) does
 
-abbrev pub MakesAct : List Form → List Form → List Act → {E : Type 0} → Result (Option ActForm) E → Type 0
+abbrev pub MakesAct : List ValueForm → List ValueForm → List Act → {E : Type 0} → Result (Option ActForm) E → Type 0
 MakesAct old new does (Ok x) = ActMade old new does x
 MakesAct old new does (Err e) = Unit {0}
 
 -- One more operation is done.
-pub record Learns (old new : List Form) (w u : Walk) (o : trace.Operation) : Type 0 where
+pub record Learns (old new : List ValueForm) (w u : Walk) (o : trace.Operation) : Type 0 where
   pub grows : Grown old new
   pub same_trace : u.trace ≡ w.trace
   pub done : u.done ≡ w.done + 1

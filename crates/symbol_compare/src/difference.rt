@@ -5,7 +5,7 @@ ghost use Rattle.trace_core.specs.Trees.{trace_tree};
 ghost use Rattle.symbol_mean.specs.Symbolic.{symbolic};
 ghost use Rattle.symbol_compare.specs.Differ.{Differs, IsSame, SameAt};
 ghost use Rattle.symbol_compare.specs.Steps.{ActsMade, Steps, Walked};
-ghost use Rattle.symbol_compare.specs.declared.form.Form.{Form};
+ghost use Rattle.symbol_compare.specs.declared.form.ValueForm.{ValueForm};
 
 use crate::acts::act;
 use crate::counts::no_counts;
@@ -67,7 +67,7 @@ fn go(table: &mut Table, walk: &mut Walk<'_>, acts: &mut Vec<ActForm>) -> Result
 fn begin<'a>(alloc: Global, trace: &'a Trace) -> Walk<'a>
     ensures trace { result.trace ≡ trace.entry }
     ensures first { result.done ≡ 0 }
-    ensures walked { (fs : List Form) → Walked fs result [] }
+    ensures walked { (fs : List ValueForm) → Walked fs result [] }
 {
     Walk {
         trace,

@@ -128,7 +128,7 @@ pub enum SentForm {
 
 /// A value of any kind.
 #[derive(Clone, Copy, Debug, PartialEq, Eq, Hash)]
-pub enum Form {
+pub enum ValueForm {
     Number(NumberForm),
     Message(MessageForm),
     Sent(SentForm),

@@ -4,7 +4,7 @@ ghost use Rattle.std.specs.Prelude.{◌≡◌};
 ghost use Rattle.symbol_compare.specs.Parts.{form_of, parts_of, seen_in, sort_of};
 
 use crate::counts::{Counts, count_of};
-use crate::form::{Form, MessageForm, NumberForm, Seen};
+use crate::form::{MessageForm, NumberForm, Seen, ValueForm};
 use crate::sort::Sort;
 use msg_core::Fields;
 use trace_core::Node;
@@ -61,23 +61,23 @@ fn seen_in(counts: &Counts, place: u8, cell: u8) -> Seen
 }
 
 /// The form of a node whose parts have these values.
-pub(crate) fn form_of(node: Node, counts: &Counts, values: &Fields) -> Form
+pub(crate) fn form_of(node: Node, counts: &Counts, values: &Fields) -> ValueForm
     ensures { result ≡ form_of (seen_in counts.now) node values.now }
 {
     match node {
-        Node::Me => Form::Number(NumberForm::Me),
-        Node::Count => Form::Number(NumberForm::Count),
-        Node::Ltime => Form::Number(NumberForm::Ltime),
-        Node::Element { place, cell, .. } => Form::Number(NumberForm::Element {
+        Node::Me => ValueForm::Number(NumberForm::Me),
+        Node::Count => ValueForm::Number(NumberForm::Count),
+        Node::Ltime => ValueForm::Number(NumberForm::Ltime),
+        Node::Element { place, cell, .. } => ValueForm::Number(NumberForm::Element {
             seen: seen_in(counts, place, cell),
             index: values.at(0),
         }),
-        Node::Square { place, cell, .. } => Form::Number(NumberForm::Square {
+        Node::Square { place, cell, .. } => ValueForm::Number(NumberForm::Square {
             seen: seen_in(counts, place, cell),
             row: values.at(0),
             column: values.at(1),
         }),
-        Node::Rows { place, cell, .. } => Form::Number(NumberForm::Rows {
+        Node::Rows { place, cell, .. } => ValueForm::Number(NumberForm::Rows {
             seen: seen_in(counts, place, cell),
             index: values.at(0),
         }),
@@ -86,23 +86,23 @@ pub(crate) fn form_of(node: Node, counts: &Counts, values: &Fields) -> Form
             cell,
             number,
             ..
-        } => Form::Number(NumberForm::Item {
+        } => ValueForm::Number(NumberForm::Item {
             seen: seen_in(counts, place, cell),
             index: values.at(0),
             row: values.at(1),
             number,
         }),
-        Node::Size(_) => Form::Number(NumberForm::Size(values.at(0))),
-        Node::Binary { operator, .. } => Form::Number(NumberForm::Binary {
+        Node::Size(_) => ValueForm::Number(NumberForm::Size(values.at(0))),
+        Node::Binary { operator, .. } => ValueForm::Number(NumberForm::Binary {
             operator,
             left: values.at(0),
             right: values.at(1),
         }),
-        Node::Apply { function, .. } => Form::Number(NumberForm::Apply {
+        Node::Apply { function, .. } => ValueForm::Number(NumberForm::Apply {
             function,
             operand: values.at(0),
         }),
-        Node::Pick { .. } => Form::Number(NumberForm::Pick {
+        Node::Pick { .. } => ValueForm::Number(NumberForm::Pick {
             condition: values.at(0),
             first: values.at(1),
             second: values.at(2),
@@ -112,25 +112,25 @@ pub(crate) fn form_of(node: Node, counts: &Counts, values: &Fields) -> Form
             cell,
             load,
             ..
-        } => Form::Message(MessageForm::Held {
+        } => ValueForm::Message(MessageForm::Held {
             seen: seen_in(counts, place, cell),
             index: values.at(0),
             row: values.at(1),
             load,
         }),
-        Node::Cut { .. } => Form::Message(MessageForm::Cut {
+        Node::Cut { .. } => ValueForm::Message(MessageForm::Cut {
             message: values.at(0),
             from: values.at(1),
             length: values.at(2),
         }),
-        Node::Tail { .. } => Form::Message(MessageForm::Tail {
+        Node::Tail { .. } => ValueForm::Message(MessageForm::Tail {
             message: values.at(0),
             from: values.at(1),
         }),
-        Node::Join { .. } => Form::Message(MessageForm::Join {
+        Node::Join { .. } => ValueForm::Message(MessageForm::Join {
             first: values.at(0),
             second: values.at(1),
         }),
-        _ => Form::Number(NumberForm::Number(0)),
+        _ => ValueForm::Number(NumberForm::Number(0)),
     }
 }

@@ -12,7 +12,7 @@ ghost use Rattle.symbol_compare.specs.Meant.{a_chain, a_row, a_sending, meanings
 ghost use Rattle.symbol_compare.specs.Table.{Makes};
 ghost use Rattle.symbol_compare.specs.Walk.{AllNumbers, Knows, MakesNumbers, MakesSome, known_to};
 
-use crate::form::{Form, SentForm};
+use crate::form::{SentForm, ValueForm};
 use crate::table::Table;
 use crate::values::{atom_value, core_value};
 use crate::walk::Walk;
@@ -60,11 +60,11 @@ fn row_after(table: &mut Table, numbers: &Fields, first: u32) -> Result<u32, All
     ensures { Makes table.old table.new (a_row (map (number_in (meanings table.old)) (drop first numbers.now))) result }
 {
     if first >= numbers.len() {
-        let made = table.put(Form::Sent(SentForm::NoNumbers))?;
+        let made = table.put(ValueForm::Sent(SentForm::NoNumbers))?;
         return Ok(made);
     }
     let rest = row_after(table, numbers, first + 1)?;
-    let made = table.put(Form::Sent(SentForm::Numbers {
+    let made = table.put(ValueForm::Sent(SentForm::Numbers {
         first: numbers.at(first),
         rest,
     }))?;
@@ -104,13 +104,13 @@ fn chain(table: &mut Table, walk: &Walk<'_>, number: u32) -> Result<u32, AllocEr
 {
     match walk.trace.links.front(number) {
         None => {
-            let made = table.put(Form::Sent(SentForm::NoLinks))?;
+            let made = table.put(ValueForm::Sent(SentForm::NoLinks))?;
             Ok(made)
         }
         Some(link) => {
             let rest = chain(table, walk, link.rest)?;
             let fields = atom_row(table, walk, &link.fields)?;
-            let made = table.put(Form::Sent(SentForm::Link {
+            let made = table.put(ValueForm::Sent(SentForm::Link {
                 place: link.place,
                 tag: link.tag,
                 fields,
@@ -132,7 +132,7 @@ fn sent_message(table: &mut Table, walk: &Walk<'_>, sent: Chained) -> Result<u32
 {
     let chain = chain(table, walk, sent.chain)?;
     let message = core_value(table, walk, sent.core)?;
-    let made = table.put(Form::Sent(SentForm::Message { chain, message }))?;
+    let made = table.put(ValueForm::Sent(SentForm::Message { chain, message }))?;
     Ok(made)
 }
 
@@ -150,7 +150,7 @@ pub(crate) fn sending(
 {
     match sent {
         None => {
-            let made = table.put(Form::Sent(SentForm::Nothing))?;
+            let made = table.put(ValueForm::Sent(SentForm::Nothing))?;
             Ok(made)
         }
         Some(sent) => {

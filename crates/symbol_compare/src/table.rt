@@ -5,7 +5,7 @@ ghost use Rattle.symbol_compare.specs.Meant.{meanings, meant_of};
 ghost use Rattle.symbol_compare.specs.Table.{IsWell, Makes};
 ghost use Rattle.symbol_compare.specs.Set.{AreOne};
 
-use crate::form::Form;
+use crate::form::ValueForm;
 use crate::set::Forms;
 use std::alloc::{AllocError, Global};
 use std::marker::Model;
@@ -22,12 +22,12 @@ pub struct Table {
 impl Model for Table {
     ghost use Rattle.std.specs.Prelude.{List, [], ◌≤◌, length};
     ghost use Rattle.std.specs.Coded.{codes};
-    ghost use Rattle.symbol_compare.specs.declared.form.Form.{Form};
-    ghost use Rattle.symbol_compare.specs.contracts.form.Form as form;
+    ghost use Rattle.symbol_compare.specs.declared.form.ValueForm.{ValueForm};
+    ghost use Rattle.symbol_compare.specs.contracts.form.ValueForm as form;
     ghost use Rattle.symbol_compare.specs.declared.table.TheConstants.{MOST_VALUES};
     ghost use Rattle.symbol_compare.specs.Table.{AreWell};
 
-    ghost Value = { List Form };
+    ghost Value = { List ValueForm };
 
     ghost coded = { Prim.hlevel (codes, form.the_row.coded) };
 
@@ -51,7 +51,7 @@ impl Table {
 
     /// Adds a value made of earlier ones, unless it is there, and answers its number.
     #[tactic(auto, using(crate::proofs::Sharing::put_made, crate::proofs::Sharing::put_well))]
-    pub fn put(&mut self, form: Form) -> Result<u32, AllocError>
+    pub fn put(&mut self, form: ValueForm) -> Result<u32, AllocError>
         requires { IsWell (meanings self.old) form }
         ensures { Makes self.old self.new (meant_of (meanings self.old) form) result }
     {

@@ -13,7 +13,7 @@ ghost use Rattle.symbol_compare.specs.Leaves.{taken_message_form, taken_number_f
 ghost use Rattle.symbol_compare.specs.Table.{Makes};
 ghost use Rattle.symbol_compare.specs.Walk.{Knows, MakesAll, MakesNumbers, known_to, meant_at};
 
-use crate::form::{Form, MessageForm, NumberForm};
+use crate::form::{MessageForm, NumberForm, ValueForm};
 use crate::parts::{form_of, parts_of, sort_of};
 use crate::sort::Sort;
 use crate::table::Table;
@@ -68,7 +68,7 @@ fn bound_value(table: &mut Table, walk: &Walk<'_>, number: u32) -> Result<u32, A
     match bound_at(walk, number) {
         Some(value) => Ok(value),
         None => {
-            let made = table.put(Form::Number(NumberForm::Number(0)))?;
+            let made = table.put(ValueForm::Number(NumberForm::Number(0)))?;
             Ok(made)
         }
     }
@@ -84,7 +84,7 @@ fn noted_value(table: &mut Table, walk: &Walk<'_>, message: u32) -> Result<u32, 
     match noted_at(walk, message) {
         Some(value) => Ok(value),
         None => {
-            let made = table.put(Form::Message(MessageForm::Nothing))?;
+            let made = table.put(ValueForm::Message(MessageForm::Nothing))?;
             Ok(made)
         }
     }
@@ -98,15 +98,15 @@ pub(crate) fn atom_value(table: &mut Table, walk: &Walk<'_>, atom: Atom) -> Resu
 {
     match atom {
         Atom::Number(number) => {
-            let made = table.put(Form::Number(NumberForm::Number(number)))?;
+            let made = table.put(ValueForm::Number(NumberForm::Number(number)))?;
             Ok(made)
         }
         Atom::Peer => {
-            let made = table.put(Form::Number(NumberForm::Peer))?;
+            let made = table.put(ValueForm::Number(NumberForm::Peer))?;
             Ok(made)
         }
         Atom::Field(number) => {
-            let made = table.put(Form::Number(NumberForm::Field(number)))?;
+            let made = table.put(ValueForm::Number(NumberForm::Field(number)))?;
             Ok(made)
         }
         Atom::Bound(number) => {
@@ -115,11 +115,11 @@ pub(crate) fn atom_value(table: &mut Table, walk: &Walk<'_>, atom: Atom) -> Resu
         }
         Atom::Taken { row, number } => {
             let form = taken_number_form(walk.takes, row, number);
-            let made = table.put(Form::Number(form))?;
+            let made = table.put(ValueForm::Number(form))?;
             Ok(made)
         }
         Atom::Value(_) => {
-            let made = table.put(Form::Number(NumberForm::Number(0)))?;
+            let made = table.put(ValueForm::Number(NumberForm::Number(0)))?;
             Ok(made)
         }
     }
@@ -133,7 +133,7 @@ pub(crate) fn core_value(table: &mut Table, walk: &Walk<'_>, core: Core) -> Resu
 {
     match core {
         Core::Body => {
-            let made = table.put(Form::Message(MessageForm::Body))?;
+            let made = table.put(ValueForm::Message(MessageForm::Body))?;
             Ok(made)
         }
         Core::Noted(message) => {
@@ -142,11 +142,11 @@ pub(crate) fn core_value(table: &mut Table, walk: &Walk<'_>, core: Core) -> Resu
         }
         Core::Taken { row, load } => {
             let form = taken_message_form(walk.takes, row, load);
-            let made = table.put(Form::Message(form))?;
+            let made = table.put(ValueForm::Message(form))?;
             Ok(made)
         }
         Core::Nothing => {
-            let made = table.put(Form::Message(MessageForm::Nothing))?;
+            let made = table.put(ValueForm::Message(MessageForm::Nothing))?;
             Ok(made)
         }
     }

@@ -18,7 +18,8 @@ run-requires-clause-slots c =
 
 pub run-requires-clause-tasks : goal.run-requires-clause-tasks
 run-requires-clause-tasks c =
-    let fits = c.law_entries_fit.ensures (stack_tree c.args.stack.now) _ c.requires.can.chained c.requires.can.enters in (
+    let can = c.requires.can in
+    let fits = c.law_entries_fit.ensures (stack_tree c.args.stack.now) _ can.chained can.enters in (
       ap (λ (b : Buffer PoolTask). b.items) c.requires.can.tasks,
       omega (arith, fits.weight, ap (λ (b : Buffer PoolTask). b.capacity) c.requires.can.tasks),
     )
