@@ -1,8 +1,9 @@
 #!/usr/bin/env python3
-"""Writes crates/README.md, the index of crates, from crates.txt, the first sentences of the crates' READMEs and the comments over laws.
+"""Writes crates/README.md, the index of crates, from crates.txt, the first sentences of the crates' READMEs and the comments over laws; and the table of
+docs/ARCHITECTURE.md that says which change proves how much again.
 
-    tools/crates.py             writes the page
-    tools/crates.py --check     prints what differs where the page is stale, and ends with 1
+    tools/crates.py             writes the pages
+    tools/crates.py --check     prints what differs where a page is stale, and ends with 1
     tools/crates.py --above     prints how many crates stand on each, the most first
 
 The groups are the headings of crates.txt. Of a crate's README the first sentence after the title tells what it promises; one that is long is cut at
@@ -16,6 +17,9 @@ import sys
 
 TOP = os.path.join(os.path.dirname(os.path.abspath(__file__)), "..")
 PAGE = "crates/README.md"
+MAP = "docs/ARCHITECTURE.md"
+BETWEEN = re.compile(r"(<!-- made by tools/crates\.py -->\n).*?(<!-- end -->)", re.S)
+BELOW_MANY = "msg_core layer_words layer_mean stack_mean packet_mean run_mean layer_ast fault_mean file_mean file_laws lack_mean audit_mean job_mean group_member outside"
 LONG = 200
 SENTENCE = re.compile(r"(?<=[^.]\.)\s+(?=[A-Z`*])")
 HEAD = """# The crates
@@ -112,6 +116,20 @@ def page():
     return "\n".join(lines).rstrip() + "\n"
 
 
+def table():
+    """How many crates stand on those that many stand on."""
+    graph = {crate: below for _, crates in groups() for crate, below in crates}
+    on_it = above(graph)
+    lines = [f"| A change of | proves again, of {len(graph)} crates |", "|---|---|"]
+    lines += [f"| {crate} | {len(on_it[crate])} |" for crate in sorted(BELOW_MANY.split(), key=lambda name: -len(on_it[name]))]
+    return "\n".join(lines) + "\n"
+
+
+def map_page():
+    """The map with its table made anew."""
+    return BETWEEN.sub(lambda found: found[1] + table() + found[2], read(MAP))
+
+
 def print_above():
     graph = {crate: below for _, crates in groups() for crate, below in crates}
     for crate, some in sorted(above(graph).items(), key=lambda pair: (-len(pair[1]), pair[0])):
@@ -122,14 +140,17 @@ def main():
     if sys.argv[1:] == ["--above"]:
         print_above()
         return 0
-    new, old = page(), read(PAGE) if os.path.exists(path(PAGE)) else ""
-    if sys.argv[1:] == ["--check"]:
-        for line in difflib.unified_diff(old.split("\n"), new.split("\n"), PAGE, "from the crates", lineterm="", n=0):
-            print(line)
-        return int(old != new)
-    with open(path(PAGE), "w", encoding="utf-8") as file:
-        file.write(new)
-    return 0
+    stale = 0
+    for name, new in ((PAGE, page()), (MAP, map_page())):
+        old = read(name) if os.path.exists(path(name)) else ""
+        if sys.argv[1:] == ["--check"]:
+            for line in difflib.unified_diff(old.split("\n"), new.split("\n"), name, "from the crates", lineterm="", n=0):
+                print(line)
+            stale = stale or int(old != new)
+        elif old != new:
+            with open(path(name), "w", encoding="utf-8") as file:
+                file.write(new)
+    return stale
 
 
 if __name__ == "__main__":
