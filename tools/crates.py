@@ -43,11 +43,11 @@ def read(*parts):
 
 
 def groups():
-    """The headings of crates.txt, each with its crates and what these cite; comments before the first crate of all are no heading."""
+    """The headings of crates.txt, each with its crates and what these cite; a comment over no crate is no heading."""
     found = []
     for line in read("crates.txt").split("\n"):
         name, colon, below = line.partition(":")
-        if line.startswith("# ") and ":" not in line:
+        if line.startswith("# "):
             found.append((line[2:].strip(), []))
         elif colon and not line.startswith("#"):
             found[-1][1].append((name.strip(), below.split()))
@@ -71,7 +71,7 @@ def first_sentence(text):
     """The first sentence; a long one up to its first colon or semicolon."""
     first = SENTENCE.split(" ".join(text.split()))[0]
     if len(first) > LONG:
-        first = re.split(r"[:;]", first)[0] + "."
+        first = re.split(r"[:;]", first)[0].rstrip(".") + "."
     return first.replace("|", "\\|")
 
 
