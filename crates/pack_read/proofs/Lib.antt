@@ -1,7 +1,7 @@
 mod Took
 mod Arms
 mod Cells
-mod Brackets
+mod Opened
 mod ExpressionRules
 mod Writing
 mod Numbering

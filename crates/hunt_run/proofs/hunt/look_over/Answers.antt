@@ -4,8 +4,8 @@ use Rattle.hunt_run.specs.Reading.{request_shown}
 use Rattle.hunt_run.proofs.Looked.{looked}
 use Rattle.hunt_run.proofs.hunt.look_over.Goals as goal
 
-pub of-requires : goal.of-requires
-of-requires g c = means_sound c.args.file.now (stack_tree c.args.stack) c.requires
+pub new-requires : goal.new-requires
+new-requires g c = means_sound c.args.file.now (stack_tree c.args.stack) c.requires
 
 pub returns-in-Ok : goal.returns-in-Ok
 returns-in-Ok g c =

@@ -4,7 +4,7 @@ use Rattle.pack_read.specs.Inside.{inner}
 use Rattle.pack_read.proofs.Arms.{choice_read, cut_read, held_read, item_read, join_read, operation_read}
 use Rattle.pack_read.proofs.Arms.{tail_read}
 use Rattle.pack_read.proofs.Cells.{both_read}
-use Rattle.pack_read.proofs.Brackets.{message_opened, no_cell, number_opened, operation_opened}
+use Rattle.pack_read.proofs.Opened.{message_opened, no_cell, number_opened, operation_opened}
 use Rattle.pack_words.specs.Names.{words_in}
 use Rattle.pack_read.proofs.expressions.+expressions.Goals as goal
 

@@ -1,5 +1,5 @@
 use Rattle.pack_words.specs.Reading.{left}
-use Rattle.pack_read.proofs.Brackets.{message_whole}
+use Rattle.pack_read.proofs.Opened.{message_whole}
 use Rattle.pack_read.proofs.read.message.Goals as goal
 
 pub returns : goal.returns

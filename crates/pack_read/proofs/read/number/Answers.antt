@@ -1,5 +1,5 @@
 use Rattle.pack_words.specs.Reading.{left}
-use Rattle.pack_read.proofs.Brackets.{number_whole}
+use Rattle.pack_read.proofs.Opened.{number_whole}
 use Rattle.pack_read.proofs.read.number.Goals as goal
 
 pub returns : goal.returns

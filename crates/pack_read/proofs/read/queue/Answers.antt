@@ -1,5 +1,5 @@
 use Rattle.pack_words.specs.Reading.{left}
-use Rattle.pack_read.proofs.Brackets.{queue_whole}
+use Rattle.pack_read.proofs.Opened.{queue_whole}
 use Rattle.pack_read.proofs.read.queue.Goals as goal
 
 pub returns : goal.returns

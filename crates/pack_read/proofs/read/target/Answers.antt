@@ -1,5 +1,5 @@
 use Rattle.pack_words.specs.Reading.{left}
-use Rattle.pack_read.proofs.Brackets.{target_whole}
+use Rattle.pack_read.proofs.Opened.{target_whole}
 use Rattle.pack_read.proofs.read.target.Goals as goal
 
 pub returns : goal.returns

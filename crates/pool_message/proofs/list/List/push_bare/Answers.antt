@@ -75,7 +75,7 @@ stored c = elim c.match-pop.branch [
         subst (λ xs. AreParted xs (c.self.inside.order.items ++ length c.self.inside.slots.items ∷ [])
             c.pop.new.self.items)
             (sym (w.push_reserved.ensures.items ∙ ap (λ e. c.self.inside.slots.items ++ (c.args.direction, e) ∷ [])
-            (w.of-event.ensures ∙ ap (pool_event c.args.envelope) w.empty-message.ensures)))
+            (w.of-event.ensures ∙ ap (pool_event c.args.envelope) w.new-message.ensures)))
             (subst (λ f. AreParted (c.self.inside.slots.items ++ event_with c None ∷ [])
             (c.self.inside.order.items ++ length c.self.inside.slots.items ∷ []) f)
             (sym (none_free c.pop.new.self.items (omega (arith, w.in-None.ensures.cases.1, c.pop.new.self.ok.0))))
@@ -85,7 +85,7 @@ stored c = elim c.match-pop.branch [
             c.self.invariant.0))),
         ap (λ xs. standing xs (c.self.inside.order.items ++ length c.self.inside.slots.items ∷ []))
             (w.push_reserved.ensures.items ∙ ap (λ e. c.self.inside.slots.items ++ (c.args.direction, e) ∷ [])
-            (w.of-event.ensures ∙ ap (pool_event c.args.envelope) w.empty-message.ensures))
+            (w.of-event.ensures ∙ ap (pool_event c.args.envelope) w.new-message.ensures))
             ∙ made_stands c.self.inside.slots.items c.self.inside.order.items (event_with c None)
             (subst (λ f. AreParted c.self.inside.slots.items c.self.inside.order.items f)
             (none_free c.self.inside.free.items (omega (arith, w.in-None.ensures.cases.0, c.self.inside.free.ok.0)))
@@ -111,7 +111,7 @@ stored c = elim c.match-pop.branch [
               few,
               ap length
                   (w.push_reserved.ensures.items ∙ ap (λ e. c.self.inside.slots.items ++ (c.args.direction, e) ∷ [])
-                  (w.of-event.ensures ∙ ap (pool_event c.args.envelope) w.empty-message.ensures)),
+                  (w.of-event.ensures ∙ ap (pool_event c.args.envelope) w.new-message.ensures)),
               length-append c.self.inside.slots.items (event_with c None ∷ []),
             ),
         c.self.invariant.5,
