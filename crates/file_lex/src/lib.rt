@@ -122,7 +122,7 @@ fn cut_on<'a>(tokens: &mut Vec<Lexed>, left: Left<'a>, to_end: bool) -> Result<S
                 after_number,
             }));
         }
-        after_number = law_number(&piece);
+        after_number = is_number(&piece);
         let Some(more) = take_piece(tokens, piece, at, rest)? else {
             return Ok(Stop::Bad(at));
         };
@@ -187,7 +187,7 @@ fn take_piece(
 
 /// Whether a piece is a number.
 #[tactic(auto, using(crate::proofs::Cutting::no_numeral))]
-fn law_number(piece: &Piece) -> bool
+fn is_number(piece: &Piece) -> bool
     ensures { (text : List ℕ) → result ≡ is_number_piece (found text piece.now) }
 {
     match piece {

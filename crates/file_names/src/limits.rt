@@ -48,7 +48,7 @@ pub fn size(found: &mut Found, most: u32, size: &Size)
 }
 
 /// Whether an item is a number.
-fn law_number(item: &Item) -> bool
+fn is_number(item: &Item) -> bool
     ensures { result ≡ allows a_number item.now.sort }
 {
     matches!(item.sort, Sort::Int)
@@ -72,7 +72,7 @@ fn numbers(alloc: Global, items: &[Item]) -> Result<Vec<Name>, AllocError>
 {
     let mut all = Vec::new(alloc);
     for item in items {
-        if law_number(item) {
+        if is_number(item) {
             all.push(item.name)?;
         }
     }
@@ -85,7 +85,7 @@ fn front(found: &mut Found, items: &[Item])
     ensures { Finds found.old (flat_map followed_faults (map item_tree items.now)) found.new }
 {
     for item in items {
-        let holds = law_number(item);
+        let holds = is_number(item);
         note_unless(found, holds, Cause::TooMany, item.name.at);
     }
 }

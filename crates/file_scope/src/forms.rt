@@ -136,7 +136,7 @@ pub fn declares_param(scope: &Scope, word: &Word) -> bool
 }
 
 /// Whether a declaration declares a number.
-fn law_number(d: &Declaration) -> bool
+fn is_number(d: &Declaration) -> bool
     ensures { result ≡ sorts.is_number (declaration_tree d.now) }
 {
     is_param(d) || is_numbers(Shape::One, d)
@@ -148,6 +148,6 @@ pub fn declares_number(scope: &Scope, word: &Word) -> bool
 {
     match scope.declaration(word) {
         None => false,
-        Some(d) => law_number(d),
+        Some(d) => is_number(d),
     }
 }
