@@ -13,7 +13,7 @@ RUNCHART=${RUNCHART:+$(readlink -f "$RUNCHART")}
 STACKHUNT=${STACKHUNT:+$(readlink -f "$STACKHUNT")}
 export STACKC LAYERFMT RUNCHART STACKHUNT PYTHONDONTWRITEBYTECODE=1
 failed=0
-for test in table statuses packs terminal sentences script grammars journals tutorial layouts charts hunts definitions; do
+for test in launcher table statuses packs terminal sentences script grammars journals tutorial layouts charts hunts definitions; do
   python3 "$(dirname "$(readlink -f "$0")")/tests/$test.py" || failed=1
 done
 exit "$failed"
