@@ -14,7 +14,8 @@ TABLE = Table()
 SCRIPT_WORDS = [
     ("--help", "prints this"),
     ("--version", "prints the commit of the sources and the kit"),
-    ("--trial", "before a job: runs a build that is not proved, ready in a minute or two"),
+    ("--prove", "proves and builds the program, which takes an hour or so at first"),
+    ("--trial", "before a job: runs the build that is not proved, which is made in some minutes and kept"),
 ]
 FROM = "made by tools/make.py from tools/jobs.tsv"
 

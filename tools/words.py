@@ -110,7 +110,7 @@ def cut(words, options):
             places.append(word)
             continue
         option, sign, value = word.partition("=")
-        if option in ("--trial", "--help", "--version"):
+        if option in ("--prove", "--trial", "--help", "--version"):
             raise NoJob(f"`{option}` stands before the job")
         if option not in options:
             raise NoJob(f"there is no option `{option}`" + nearest(option, options))

@@ -17,7 +17,7 @@ _stackc() {
   [ "${COMP_WORDS[1]-}" != --trial ] || [ "$COMP_CWORD" -eq 1 ] || at=2
   if [ "$COMP_CWORD" -eq "$at" ]; then
     word="check synth pack replay explain load node audit"
-    [ "$at" -eq 2 ] || word="$word --help --version --trial"
+    [ "$at" -eq 2 ] || word="$word --help --version --prove --trial"
     mapfile -t COMPREPLY < <(compgen -W "$word" -- "$current")
     return
   fi

@@ -7,7 +7,7 @@ import subprocess
 import sys
 import time
 
-from tree import TOP, apart, at_terminal, tree
+from tree import TOP, apart, tree
 
 FAILED = []
 KIT = """#!/usr/bin/env bash
@@ -15,15 +15,6 @@ KIT = """#!/usr/bin/env bash
 [ "$1" != version ] || { echo "kit of this test"; exit 0; }
 echo $$ >>"$STARTED"
 exec sleep 600
-"""
-TRIES = """#!/usr/bin/env bash
-# In the kit's place: a trial runs the program in $STACKC, and says something of its own.
-while [ "$1" != -- ]; do shift; done
-shift
-"$STACKC" "$@"
-status=$?
-echo "run=ended status=$status" >&2
-exit "$status"
 """
 SLOW = """#!/usr/bin/env bash
 # In the program's place: says at once that it runs, and then runs until it is ended.
@@ -99,7 +90,7 @@ def ended(what, words, top, number, count, **how):
 
 
 def is_ended(top):
-    """A build, a trial and a run, each ended."""
+    """A proof and a run, each ended; launcher.py ends a build that is not proved."""
     os.mkdir(os.path.join(top, "crates", "one"))
     os.mkdir(os.path.join(top, "crates", "two"))
     os.remove(os.path.join(top, "crates.txt"))
@@ -108,8 +99,7 @@ def is_ended(top):
     executable(os.path.join(top, "rt"), KIT)
     script = os.path.join(top, "stackc")
     for number in (signal.SIGINT, signal.SIGTERM):
-        ended("a build", [script, "check", "a"], top, number, 2, stderr=subprocess.DEVNULL)
-        ended("a trial", [script, "--trial", "check", "a"], top, number, 1, stderr=subprocess.DEVNULL)
+        ended("a proof", [script, "--prove"], top, number, 1, stderr=subprocess.DEVNULL)
     executable(os.path.join(top, "crates", "stackc", "out", "stackc"), SLOW)
     for number in (signal.SIGINT, signal.SIGTERM):
         ended("a run", [script, "check", "a"], top, number, 1, stderr=subprocess.DEVNULL)
@@ -118,18 +108,6 @@ def is_ended(top):
         os.close(its)
         wants("a terminal gets what is said at once, and nothing else of a run that is ended", os.read(mine, 4096) == b"read fault\r\n")
         os.close(mine)
-
-
-def trial_tells(top):
-    """What a trial says at a terminal, and without one."""
-    executable(os.path.join(top, "rt"), TRIES)
-    with open(os.path.join(top, "work", "a.layers"), "w", encoding="utf-8") as file:
-        file.write("stack { botom; }\n")
-    words = ["env", f"PATH={top}{os.pathsep}{os.environ['PATH']}", os.path.join(top, "stackc"), "--trial", "check", "a.layers"]
-    plain, shown = apart(words, os.path.join(top, "work")), at_terminal(words, os.path.join(top, "work"))
-    said = b"stackc: a trial, of a build that is not proved\nfile: unknown 1:9\n"
-    wants("a trial says what the program says", plain == (1, b"", said))
-    wants("at a terminal a trial says more", shown[:2] == (1, b"") and shown[2].startswith(said + b"a.layers:1:9: there is no layer"))
 
 
 def passes_on(top):
@@ -168,8 +146,6 @@ def main():
         own_words(top)
     with tree() as top:
         is_ended(top)
-    with tree() as top:
-        trial_tells(top)
     with tree(os.environ["STACKC"]) as top:
         passes_on(top)
     completions()

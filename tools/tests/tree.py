@@ -15,7 +15,7 @@ def tree(program=None):
     """A folder with the script, and what it reads beside it; with a program it is as built."""
     with tempfile.TemporaryDirectory(prefix="stackc-") as top:
         shutil.copy(os.path.join(TOP, "stackc"), top)
-        for name in ("tools", "diff", "README.md", "crates.txt", "examples"):
+        for name in ("tools", "diff", "bench", "README.md", "crates.txt", "examples"):
             os.symlink(os.path.join(TOP, name), os.path.join(top, name))
         os.makedirs(os.path.join(top, "crates", "stackc", "out"))
         os.symlink(os.path.join(TOP, "crates", "file_library"), os.path.join(top, "crates", "file_library"))
