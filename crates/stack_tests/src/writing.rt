@@ -99,12 +99,4 @@ impl Reader<'_> {
             Err(cause) => Ok(Err(cause)),
         }
     }
-
-    /// The cause for which it refuses a datagram; none where it takes it.
-    pub fn refusal(&self, alloc: Global, bytes: &[u8]) -> Result<Option<Stray>, Memory> {
-        match self.read(alloc, bytes, &mut Scan::none())? {
-            Ok(_) => Ok(None),
-            Err(cause) => Ok(Some(cause)),
-        }
-    }
 }
