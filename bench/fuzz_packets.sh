@@ -14,7 +14,7 @@ echo "bench: $below" >>"$room/crates.txt"
   cat <<'RATTLE'
 #![tactic(auto)]
 
-use event_graph::Stack;
+use stack_judge::Stack;
 use file_judge::judge;
 use msg_core::{Dest, Fields, Header, Headers, Memory, View};
 use packet_full::{PacketView, Scan, form_at};

@@ -19,12 +19,12 @@ import reading
 import running
 
 TOP = os.environ.get("JUQHANEP", os.path.dirname(os.path.dirname(os.path.abspath(__file__))))
-USED = ("file_judge", "packet_short", "packet_full", "stack_shapes", "packet_mean", "event_graph", "msg_core")
+USED = ("file_judge", "packet_short", "packet_full", "stack_shapes", "packet_mean", "stack_judge", "msg_core")
 
 PROGRAM = r"""
 #![tactic(auto)]
 
-use event_graph::Stack;
+use stack_judge::Stack;
 use file_judge::judge;
 use msg_core::{Dest, Stray, View};
 use packet_full::Scan;

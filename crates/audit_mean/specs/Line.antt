@@ -82,6 +82,7 @@ skipped_words =
     codes "state" ∷ codes "cell"
     ∷ codes "wire" ∷ codes "lost" ∷ codes "deaf" ∷ codes ">" ∷ []
 
+-- whether no law looks at lines with this first word
 abbrev pub is_skipped : Word → Bool
 is_skipped verb = list_any (bytes_eq verb) skipped_words
 

@@ -10,6 +10,7 @@ pub data Name : Type 0 where
   start : Name
   in_view : (ltime mask : ℕ) → Name
 
+-- two segments are called alike: both are the first, or both are in one view, by its ltime and its members
 abbrev pub same_name : Name → Name → Bool
 same_name start start = true
 same_name (in_view ltime mask) (in_view ltime' mask') = ltime == ltime' && mask == mask'
@@ -20,6 +21,7 @@ pub record Segment : Type 0 where
   pub name : Name
   pub began : ℕ
 
+-- the segment in which each member begins, which no line began
 abbrev pub first_segment : Segment
 first_segment = record { name = start; began = 0 }
 

@@ -1,6 +1,6 @@
 //! The jobs that print a stack's bypasses.
 
-ghost use Rattle.event_graph.specs.Answer.{stack_tree};
+ghost use Rattle.stack_judge.specs.Answer.{stack_tree};
 ghost use Rattle.job_mean.specs.Job as job;
 ghost use Rattle.end_mean.specs.Status.{done};
 ghost use Rattle.outside.specs.Tells.{tells_of};
@@ -10,10 +10,10 @@ ghost use Rattle.bypass_jobs.specs.Printing.{job_of, own_lines};
 
 use crate::printing::Printing;
 use crate::text::put_text;
-use event_graph::Stack;
 use file_jobs::fetch_stack;
 use job_ends::Ending;
 use outside::{Shelf, Sink, SinkError};
+use stack_judge::Stack;
 use std::alloc::Global;
 use std::mem::forget;
 

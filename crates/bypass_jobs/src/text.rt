@@ -2,7 +2,7 @@
 #![tactic(auto, using(outside::proofs::Gaining::begins_none))]
 
 ghost use Rattle.std.specs.Prelude.{◌≡◌};
-ghost use Rattle.event_graph.specs.Answer.{stack_tree};
+ghost use Rattle.stack_judge.specs.Answer.{stack_tree};
 ghost use Rattle.outside.specs.Lines.{Wrote};
 ghost use Rattle.outside.specs.Tells.{tells_of};
 ghost use Rattle.stack_mean.specs.Plans.{plans_of};
@@ -12,8 +12,8 @@ ghost use Rattle.trace_core.specs.Bypasses.{bypasses_tree};
 ghost use Rattle.bypass_jobs.specs.Printing.{own_lines, printing};
 
 use crate::printing::Printing;
-use event_graph::Stack;
 use outside::{Sink, SinkError};
+use stack_judge::Stack;
 use stack_shapes::{Plans, StackShapes};
 use std::alloc::Global;
 use std::mem::forget;

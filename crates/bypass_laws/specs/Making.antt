@@ -7,7 +7,7 @@ use Rattle.stack_mean.specs.Acceptance.{acceptance}
 use Rattle.stack_mean.specs.NoShape.{NoShape}
 use Rattle.stack_mean.specs.Shape.{shape, has_second_case}
 use Rattle.chain_laws.specs.Runs.{TypedStack}
-use Rattle.file_laws.specs.Named.{NamedStack}
+use Rattle.chain_laws.specs.Named.{NamedStack}
 use Rattle.trace_mean.specs.Trace.{Operation, Guarded}
 use Rattle.trace_mean.specs.Fuse.{trace_of}
 use Rattle.guard_mean.specs.Prune.{hoist}

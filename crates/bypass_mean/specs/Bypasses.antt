@@ -12,19 +12,23 @@ pub record Entry : Type 0 where
   pub known : Known
   pub fields : List (Option ℕ)
 
+-- The entry of the packets that fit a plan.
 abbrev pub plan_entry : Plan → Entry
 plan_entry plan = record { known = packet_entry plan.kind plan.tags; fields = plan.fields }
 
+-- The entry of the application's own cast, which comes with no header.
 abbrev pub cast_entry : Entry
 cast_entry = record { known = app_cast; fields = [] }
 
+-- The entry of the application's own send, which comes with no header.
 abbrev pub send_entry : Entry
 send_entry = record { known = app_send; fields = [] }
 
--- The entries of a stack: the application's own cast and send, and the packet of each plan.
+-- The entries of a stack that has these plans: the application's own cast and send, and the packet of each plan.
 abbrev pub entries_for : List Plan → List Entry
 entries_for plans = cast_entry ∷ send_entry ∷ map plan_entry plans
 
+-- The entries of a stack, with the packets of its own plans.
 abbrev pub entries_of : List LayerTree → List Entry
 entries_of stack = entries_for (plans_of stack)
 

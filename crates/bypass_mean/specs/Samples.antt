@@ -1,7 +1,7 @@
 -- Bypasses of small stacks, written out.
 use Rattle.std.specs.Prelude.{◌≡◌, ℕ, Bool, true, false, List, [], ◌∷◌, map, length, take, codes, Option, Some, None}
 use Rattle.std.specs.Prelude.{Result, Ok, Err}
-use Rattle.layer_ast.specs.declared.syntax.Operator.TheVariants.{Add, Equal}
+use Rattle.layer_words.specs.declared.operators.Operator.TheVariants.{Add, Equal}
 use Rattle.layer_mean.specs.declared.run.Case.TheVariants.{First, Second}
 use Rattle.layer_mean.specs.Tree.{LayerTree}
 use Rattle.stack_mean.specs.NoShape as no_shape
@@ -22,16 +22,19 @@ abbrev pub unguarded : Result (List Operation) NoShape → Made
 unguarded (Ok trace) = fused trace (record { values = []; conjuncts = []; operations = trace })
 unguarded (Err reason) = absent reason
 
+-- What is made of an entry in its second case, with its checks among its operations; none where it has no such case.
 abbrev pub second_unguarded : Result (List Operation) NoShape → Option Made
 second_unguarded (Err no_shape.same) = None
 second_unguarded r = Some (unguarded r)
 
+-- The bypasses of a stack, with the checks among the operations, and no guards.
 abbrev pub all_unguarded : List LayerTree → Bypasses
 all_unguarded stack = record {
   made = map (λ (e : Entry). unguarded (trace_of First stack e.known e.fields)) (entries_of stack);
   second = map (λ (e : Entry). second_unguarded (trace_of Second stack e.known e.fields)) (entries_of stack);
 }
 
+-- These bypasses, written out.
 abbrev pub unguarded_lines : List LayerTree → List (List ℕ)
 unguarded_lines stack = bypass_lines stack (plans_of stack) (all_unguarded stack)
 
@@ -48,7 +51,7 @@ CounterText = unguarded_lines (counter ∷ []) ≡
     codes "entry plan 1 fused" ∷ codes "do out up Send(peer,body)" ∷
     codes "end 4 fused 0 absent" ∷ []
 
--- The same with the check of its packet's entry as a guard.
+-- The counter's packet, with its check as a guard: an entry value, and a conjunct over it.
 abbrev pub due : Made
 due = fused [] (record {
   values = element 0 1 (atom peer) ∷ [];
@@ -56,6 +59,7 @@ due = fused [] (record {
   operations = set 0 1 (atom peer) (binary Add (atom (field 0)) (atom (number 1))) ∷ [];
 })
 
+-- A guard is written before its operations: entry values after `let`, and conjuncts after `when`.
 abbrev pub GuardText : Type 0
 GuardText = made_lines (counter ∷ []) (codes "entry plan 0") due ≡
     codes "entry plan 0 fused" ∷ codes "let v.0 = 0.e[peer]" ∷ codes "when (in.0 == v.0)" ∷
@@ -75,11 +79,12 @@ FlipText = unguarded_lines (flip ∷ []) ≡
     codes "plan 2 cast flip.b(?)" ∷ codes "entry plan 2 absent rare 0" ∷
     codes "end 4 fused 2 absent" ∷ []
 
--- A layer that keeps a part, takes it back and joins it: with its notes written out, and with lines of their own.
+-- The lines of the joiner's trace, with each note on a line of its own if `noting`.
 abbrev pub lines_of : Bool → Result (List Operation) NoShape → List (List ℕ)
 lines_of noting (Ok trace) = operation_lines noting (joiner ∷ []) trace
 lines_of noting (Err reason) = []
 
+-- A layer that keeps a part, takes it back and joins it: with its notes written out, and with lines of their own.
 abbrev pub JoinedText : Type 0
 JoinedText =
     (lines_of false joiner_trace ≡ codes "check (len(0.q) < 4)" ∷ codes "push 0.q (7,cut(body,0,2))" ∷
@@ -102,6 +107,7 @@ KeeperText = operation_lines false (keeper ∷ [])
 abbrev pub counter_file : List (List ℕ)
 counter_file = file_lines (counter ∷ []) (plans_of (counter ∷ [])) (all_unguarded (counter ∷ []))
 
+-- That file has sixteen lines, of which the first six open it and hold the counter's cast.
 abbrev pub FileText : Type 0
 FileText = (length counter_file ≡ 16) × (take 6 counter_file ≡
     codes "bypasses 1" ∷ codes "entry cast case 1" ∷ codes "bind t.0 = peer" ∷ codes "bind t.1 = 0.k" ∷

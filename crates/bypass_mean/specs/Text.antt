@@ -1,32 +1,25 @@
 -- How the operations of traces are written, each on a line of its own.
-use Rattle.std.specs.Prelude.{ℕ, ◌+◌, Bool, true, false, List, [], ◌∷◌, ◌++◌, map, length, find, slice_get}
+use Rattle.std.specs.Prelude.{ℕ, ◌+◌, Bool, true, false, List, [], ◌∷◌, ◌++◌, map, length, slice_get}
 use Rattle.std.specs.Prelude.{slice_index_or, codes, Option, Some, option_to_list}
 use Rattle.std.specs.Fmt.{decimal}
 use Rattle.std.specs.List.{fold, join_by}
 use Rattle.std.specs.Option.{option_map_or}
-use denote.Enum.Bare.{sameb}
-use Rattle.layer_ast.specs.contracts.tokens.Sign.{the_type}
-use Rattle.layer_ast.specs.declared.tokens.Sign.{Sign}
-use Rattle.layer_ast.specs.declared.syntax.Shape.TheVariants.{One}
-use Rattle.layer_ast.specs.Printed.{direction_sign, function_sign, operator_sign}
-use Rattle.layer_ast.specs.Spelling.{reserved, symbols}
+use Rattle.layer_words.specs.declared.sorts.Shape.TheVariants.{One}
+use Rattle.layer_words.specs.Signs.{direction_sign, function_sign, operator_sign}
 use Rattle.layer_mean.specs.Headers.{header_of_tag}
 use Rattle.layer_mean.specs.Tree.{Form, numbers, queue, queues, CellTree, LayerTree, no_layer}
-use Rattle.layer_ast.specs.Spelling.{kind_word}
+use Rattle.layer_words.specs.Spelling.{kind_word, sign_text}
 use Rattle.trace_mean.specs.Trace.{Atom, number, peer, field, bound, taken_number, value, Core, body, noted}
 use Rattle.trace_mean.specs.Trace.{taken_message, nothing, TraceNumber, atom, me, count, ltime, element, square, rows}
 use Rattle.trace_mean.specs.Trace.{item, size, binary, apply, pick, TraceMessage, core, held, cut, tail, join, Link}
 use Rattle.trace_mean.specs.Trace.{Chained, Operation, bind, note, check, set, set_square, push, take, output}
 use Rattle.trace_mean.specs.Fuse.{form_at}
 
--- The word or symbol of a sign, as files have it.
-abbrev pub sign_text : Sign → List ℕ
-sign_text sign = option_map_or (λ entry. entry.0) (find (λ entry. sameb the_type entry.1 sign) (symbols ++ reserved)) []
-
 -- Parts in brackets, with commas between.
 abbrev pub bracketed_list : List (List ℕ) → List ℕ
 bracketed_list parts = codes "(" ++ join_by (λ part. part) (codes ",") parts ++ codes ")"
 
+-- An index in square brackets.
 abbrev pub bracketed_index : List ℕ → List ℕ
 bracketed_index index = codes "[" ++ index ++ codes "]"
 
@@ -38,9 +31,11 @@ pub record Written : Type 0 where
   pub notes : List (List ℕ)
   pub lines : List (List ℕ)
 
+-- Before the first operation nothing is named, and there is no line.
 abbrev pub nothing_written : Written
 nothing_written = record { binds = 0; rows = []; notes = []; lines = [] }
 
+-- The layer at a place of a stack, counted from 0; one with no cells and headers, where there is none.
 abbrev pub layer_of : List LayerTree → ℕ → LayerTree
 layer_of stack place = slice_index_or stack place no_layer
 
@@ -50,19 +45,22 @@ numbers_called (Some (queue capacity items)) = items.numbers
 numbers_called (Some (queues capacity items)) = items.numbers
 numbers_called _ = []
 
--- A cell: PLACE.NAME, and its index unless the cell or queue is alone.
+-- A cell without its index: PLACE.NAME.
 abbrev pub cell_name : List LayerTree → ℕ → ℕ → List ℕ
 cell_name stack place c =
     decimal place ++ codes "." ++ option_map_or (λ (x : CellTree). x.name) (slice_get (layer_of stack place).cells c) []
 
+-- A cell's name and its index, which is left out where the cell has one number or one queue alone.
 abbrev pub with_index : Option Form → List ℕ → List ℕ → List ℕ
 with_index (Some (numbers One initial)) name index = name
 with_index (Some (queue capacity items)) name index = name
 with_index _ name index = name ++ bracketed_index index
 
+-- A cell: PLACE.NAME, and its index unless the cell or queue is alone.
 abbrev pub cell_text : List LayerTree → ℕ → ℕ → List ℕ → List ℕ
 cell_text stack place c index = with_index (form_at (layer_of stack place) c) (cell_name stack place c) index
 
+-- A number for which no cell is read: a literal, `peer`, `in.K`, `t.K`, `row.K.NAME`, or an entry value `v.K`.
 abbrev pub atom_text : Written → Atom → List ℕ
 atom_text w (number n) = decimal n
 atom_text w peer = codes "peer"
@@ -72,6 +70,7 @@ atom_text w (taken_number row n) = codes "row." ++ decimal row ++ codes "." ++
     slice_index_or (slice_index_or w.rows row []) n []
 atom_text w (value n) = codes "v." ++ decimal n
 
+-- A message for which no cell is read: `body`, what its note is written as, `row.K`, or `nothing`.
 abbrev pub core_text : Written → Core → List ℕ
 core_text w body = codes "body"
 core_text w (noted n) = slice_index_or w.notes n []
@@ -79,6 +78,7 @@ core_text w (taken_message row carried) = codes "row." ++ decimal row
 core_text w nothing = codes "nothing"
 
 abbrev mutual
+  -- A number, each operator between two numbers in brackets of its own.
   pub number_text : List LayerTree → Written → TraceNumber → List ℕ
   number_text stack w (atom a) = atom_text w a
   number_text stack w me = codes "me"
@@ -101,6 +101,7 @@ abbrev mutual
   number_text stack w (pick c a b) =
       codes "pick" ++ bracketed_list (number_text stack w c ∷ number_text stack w a ∷ number_text stack w b ∷ [])
 
+  -- A message, without its known headers.
   pub message_text : List LayerTree → Written → TraceMessage → List ℕ
   message_text stack w (core c) = core_text w c
   message_text stack w (held p c e row carried) =
@@ -112,7 +113,7 @@ abbrev mutual
   message_text stack w (join first m) = codes "join" ++
       bracketed_list (message_text stack w first ∷ message_text stack w m ∷ [])
 
--- Known headers, the lowest place's first, with `/` between: LAYER.HEADER(F,F).
+-- A known header: LAYER.HEADER(F,F), its fields as they are shown.
 abbrev pub link_text : List LayerTree → (Atom → List ℕ) → Link → List ℕ
 link_text stack shown l =
     (layer_of stack l.place).name ++ codes "." ++
@@ -120,6 +121,7 @@ link_text stack shown l =
     []
     ++ bracketed_list (map shown l.fields)
 
+-- Known headers, the lowest place's first, with `/` between.
 abbrev pub chain_text : List LayerTree → (Atom → List ℕ) → List Link → List ℕ
 chain_text stack shown chain = join_by (link_text stack shown) (codes "/") chain
 
@@ -128,6 +130,7 @@ abbrev pub following : List LayerTree → Written → List Link → List ℕ
 following stack w [] = []
 following stack w (l ∷ ls) = codes " " ++ chain_text stack (atom_text w) (l ∷ ls)
 
+-- The message of a row that is pushed, and its known headers after it.
 abbrev pub pushed_text : List LayerTree → Written → Chained → List ℕ
 pushed_text stack w m = core_text w m.core ++ following stack w m.chain
 
@@ -150,9 +153,11 @@ line_of stack w (output dir kind arguments message) = codes "out " ++ sign_text 
     map (λ (m : Chained). core_text w m.core) (option_to_list message))
     ++ option_map_or (λ (m : Chained). following stack w m.chain) message []
 
+-- One line more.
 abbrev pub with_line : List ℕ → Written → Written
 with_line line w = record w { lines = w.lines ++ line ∷ [] }
 
+-- One more noted message, which later lines write as this text.
 abbrev pub with_note : List ℕ → Written → Written
 with_note text w = record w { notes = w.notes ++ text ∷ [] }
 
@@ -170,5 +175,6 @@ writes noting stack w (take p c e) = let x = with_line (line_of stack w (take p 
     record x { rows = x.rows ++ numbers_called (form_at (layer_of stack p) c) ∷ [] }
 writes noting stack w operation = with_line (line_of stack w operation) w
 
+-- The lines of a trace's operations; each note has a line of its own if `noting`.
 abbrev pub operation_lines : Bool → List LayerTree → List Operation → List (List ℕ)
 operation_lines noting stack operations = (fold (writes noting stack) nothing_written operations).lines

@@ -3,8 +3,8 @@ use Rattle.std.proofs.Common.{◌≡◌, ℕ, ◌≤◌, List, map, length, take
 use Rattle.std.proofs.Common.{arith}
 use Rattle.std.proofs.Math.Nat.{mul-le-mul}
 use Rattle.std.proofs.lemmas.List.{length-take, length-drop}
-use Rattle.layer_ast.specs.declared.syntax.Shape.{Shape}
-use Rattle.layer_ast.specs.declared.syntax.Shape.TheVariants.{One, Array, Square}
+use Rattle.layer_words.specs.declared.sorts.Shape.{Shape}
+use Rattle.layer_words.specs.declared.sorts.Shape.TheVariants.{One, Array, Square}
 use Rattle.layer_mean.specs.State.{size_of}
 use Rattle.cell_store.specs.declared.slot.Frame.{Frame}
 use Rattle.cell_store.specs.declared.slot.Frame.TheVariants.{Numbers, Queues}

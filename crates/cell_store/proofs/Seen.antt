@@ -14,7 +14,7 @@ use Rattle.cell_store.specs.Kept.{KeptCell, numbers, queues, Kept, nothing_kept,
 use Rattle.cell_store.specs.Kept.{kept_at, kept_capacity, kept_number, kept_rows, kept_row, keeps_room, number_set}
 use Rattle.cell_store.specs.Kept.{rows_set, with_kept_number, with_kept_rows, with_last, without_first, cell_emptied}
 use Rattle.cell_store.specs.Kept.{emptied, contents_seen, state_of}
-use Rattle.layer_ast.specs.declared.syntax.Shape.{Shape}
+use Rattle.layer_words.specs.declared.sorts.Shape.{Shape}
 use Rattle.cell_store.specs.Frames.{capacity_in}
 use Rattle.cell_store.specs.Fresh.{kept_first, kept_fresh, kept_form, tree_form, IsFor}
 

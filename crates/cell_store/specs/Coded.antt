@@ -2,8 +2,8 @@
 use Rattle.std.specs.Prelude.{◌≡◌, ◌⊎◌, ℕ, List, refl}
 use Rattle.std.specs.Coded.{Coded, code_by, coded×, coded⊎, coded_list, coded_ℕ}
 use mathlib.Core.Logic.{inl, inr}
-use Rattle.layer_ast.specs.declared.syntax.Shape.{Shape}
-use Rattle.layer_ast.specs.contracts.syntax.Shape as shape
+use Rattle.layer_words.specs.declared.sorts.Shape.{Shape}
+use Rattle.layer_words.specs.contracts.sorts.Shape as shape
 use Rattle.cell_store.specs.Kept.{KeptCell, numbers, queues, Kept}
 use Rattle.cell_store.specs.Rings.{CellQueues}
 

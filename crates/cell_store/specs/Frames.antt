@@ -1,6 +1,6 @@
 -- What a cell of a form has for n members.
 use Rattle.std.specs.Prelude.{ℕ, List, [], replicate}
-use Rattle.layer_ast.specs.declared.syntax.Shape.TheVariants.{One, Array}
+use Rattle.layer_words.specs.declared.sorts.Shape.TheVariants.{One, Array}
 use Rattle.layer_mean.specs.Tree as tree
 use Rattle.layer_mean.specs.State.{size_of}
 use Rattle.cell_store.specs.Fresh.{initial_value}

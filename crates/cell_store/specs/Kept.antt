@@ -2,8 +2,8 @@
 use Rattle.std.specs.Prelude.{ℕ, ◌-◌, Bool, ◌&&◌, nat_lt, List, [], ◌∷◌, ◌++◌, map, length, take, drop, slice_get}
 use Rattle.std.specs.Prelude.{slice_index, slice_index_or, slice_set, Option}
 use Rattle.std.specs.List.{flat_map}
-use Rattle.layer_ast.specs.declared.syntax.Shape.{Shape}
-use Rattle.layer_ast.specs.declared.syntax.Shape.TheVariants.{One}
+use Rattle.layer_words.specs.declared.sorts.Shape.{Shape}
+use Rattle.layer_words.specs.declared.sorts.Shape.TheVariants.{One}
 use Rattle.layer_mean.specs.State as state
 use Rattle.layer_mean.specs.State.{State, Contents}
 use Rattle.layer_mean.specs.declared.run.Row.{Row}
@@ -112,11 +112,12 @@ module _ {R : Type 0} where
   abbrev pub rows_in : Kept R → List R
   rows_in k = flat_map (λ cell. rows_of (queues_kept cell)) k.cells
 
-  -- The same state without its rows.
+  -- A cell whose queues have no rows; numbers stay as they are.
   abbrev pub cell_emptied : KeptCell R → KeptCell R
   cell_emptied (numbers shape ns) = numbers shape ns
   cell_emptied (queues shape capacity qs) = queues shape capacity (map (λ q. []) qs)
 
+  -- A state whose queues have no rows; its numbers stay as they are.
   abbrev pub emptied : Kept R → Kept R
   emptied k = record k { cells = map cell_emptied k.cells }
 

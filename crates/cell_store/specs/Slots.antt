@@ -2,7 +2,7 @@
 use Rattle.std.specs.Prelude.{◌≡◌, ℕ, ◌+◌, ◌<◌, ◌≤◌, List, [], ◌∷◌, map, length, take, drop, replicate, slice_get}
 use Rattle.std.specs.Prelude.{slice_index_or, Option, Some, None}
 use Rattle.std.specs.List.{flat_map, sum_by}
-use Rattle.layer_ast.specs.declared.syntax.Shape.{Shape}
+use Rattle.layer_words.specs.declared.sorts.Shape.{Shape}
 use Rattle.layer_mean.specs.Tree as tree
 use Rattle.layer_mean.specs.Tree.{CellTree}
 use Rattle.layer_mean.specs.State.{size_of}

@@ -50,7 +50,7 @@ impl<R> Model for Cells<R> {
 
 impl<R> Cells<R> {
     /// The cells of `layer` before the first event, at a member of a view. All memory is taken here.
-    pub fn fresh(
+    pub fn new(
         alloc: Global,
         layer: &TypedLayer,
         membership: Membership,

@@ -36,7 +36,7 @@ impl<R> Model for Rings<R> {
 
 impl<R> Rings<R> {
     /// `count` empty queues of a capacity.
-    pub fn of(alloc: Global, count: usize, capacity: u8) -> Result<Rings<R>, AllocError>
+    pub fn with_capacity(alloc: Global, count: usize, capacity: u8) -> Result<Rings<R>, AllocError>
         ensures { IfOk result (λ r. r ≡ record { capacity = capacity; most = count; rows = replicate count [] }) }
     {
         let mut rings = Vec::with_capacity(alloc, count)?;

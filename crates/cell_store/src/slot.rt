@@ -16,7 +16,7 @@ ghost use Rattle.msg_core.specs.View.{most_members};
 use crate::initial::initial_value;
 use crate::membership::Membership;
 use crate::rings::Rings;
-use layer_ast::Shape;
+use layer_words::Shape;
 use std::alloc::{AllocError, Global};
 use typed_layer::{Cell, Form};
 
@@ -43,7 +43,7 @@ impl<R> StoredCell<R> {
         ensures { IfOk result (λ s. s ≡ slot_first count count at (form_tree form.now)) }
     {
         let frame = frame_of(form);
-        let rings = Rings::of(alloc, queues_in(frame, count), capacity_of(form))?;
+        let rings = Rings::with_capacity(alloc, queues_in(frame, count), capacity_of(form))?;
         Ok(StoredCell {
             frame,
             at,

@@ -7,7 +7,7 @@ use Rattle.std.specs.Option.{option_map_or}
 use Rattle.msg_core.specs.Chain.{Content, plain}
 use Rattle.msg_core.specs.Parts.{longest_body}
 use Rattle.msg_core.specs.declared.message.Header.{Header}
-use Rattle.layer_ast.specs.declared.syntax.Sort.{Sort}
+use Rattle.layer_words.specs.declared.sorts.Sort.{Sort}
 use Rattle.layer_mean.specs.declared.run.Row.{Row}
 use Rattle.layer_mean.specs.Tree.{Carried, part, whole, ItemsTree, ExpressionTree, number, me, count, ltime, local}
 use Rattle.layer_mean.specs.Tree.{element, square, rows, item, size, binary, apply, pick, MessageTree, message, nothing}

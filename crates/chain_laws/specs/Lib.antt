@@ -1,4 +1,5 @@
 pub mod Typed
+pub mod Named
 pub mod Visits
 pub mod Runs
 pub mod Orderly

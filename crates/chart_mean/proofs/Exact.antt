@@ -9,8 +9,8 @@ use Rattle.chart_mean.specs.Picture.{chart_of}
 use Rattle.chart_mean.specs.Words.{Request}
 use Rattle.chart_mean.specs.Ends.{status_number, error_line, Said}
 use Rattle.chart_mean.specs.Runs.{Around, Draws, Comes, Due, NoPutFailed, ExactFor}
-use Rattle.chart_mean.specs.declared.types.Ending.{Ending}
-use Rattle.chart_mean.specs.declared.types.Ending.TheVariants.{Done, TooLarge, Line, Words, Read, Write, Memory}
+use Rattle.chart_mean.specs.declared.types.ChartEnding.{ChartEnding}
+use Rattle.chart_mean.specs.declared.types.ChartEnding.TheVariants.{Done, TooLarge, Line, Words, Read, Write, Memory}
 
 line_due : (line : List ℕ) (status : ℕ) (e : Errors) → SaysLine line status e → Due status e.status
 line_due line status e (whole gained is) = inl is
@@ -18,7 +18,7 @@ line_due line status e (failed part is) = inl is
 line_due line status e (no_memory begun is) = inr is
 
 -- what is said of an end goes with its status
-said_due : (end : Ending) (e : Errors) → Said end e → Due (status_number end) e.status
+said_due : (end : ChartEnding) (e : Errors) → Said end e → Due (status_number end) e.status
 said_due Done e said = inl said.status
 said_due TooLarge e said = line_due (error_line TooLarge) 1 e said
 said_due (Line number) e said = line_due (error_line (Line number)) 1 e said
@@ -45,7 +45,8 @@ module _ (r : Request) (a : Around) (status : ℕ) (shelf : Shelved) (is : a.tol
   apart : {X : Type 0} (file : List ℕ) → found_in shelf r.file ≡ Some file → found_in shelf r.file ≡ None → X
   apart file some none = absurd (cc (some, none))
 
-  unread : (end : Ending) → Draws r a end → Due (status_number end) status → found_in shelf r.file ≡ None → Due 4 status
+  unread : (end : ChartEnding) → Draws r a end → Due (status_number end) status → found_in shelf r.file ≡ None →
+      Due 4 status
   unread Done d due none = apart d.good.file (found d.good.file d.good.found) none
   unread TooLarge d due none = apart d.file (found d.file d.found) none
   unread (Line number) d due none = apart d.file (found d.file d.found) none
@@ -65,8 +66,8 @@ module _ (r : Request) (a : Around) (status : ℕ) (shelf : Shelved) (is : a.tol
   unlike file other picture fault one two drawn not_drawn =
       let same = ap (chart_of r.range) (file_is file other one two) in absurd (cc (same, drawn, not_drawn))
 
-  refused : (end : Ending) → Draws r a end → Due (status_number end) status → (file : List ℕ) (fault : AuditFault) →
-      found_in shelf r.file ≡ Some file →
+  refused : (end : ChartEnding) → Draws r a end → Due (status_number end) status → (file : List ℕ)
+      (fault : AuditFault) → found_in shelf r.file ≡ Some file →
       chart_of r.range file ≡ Err fault → Due 1 status
   refused Done d due file fault has not_drawn =
       unlike d.good.file file d.good.picture fault (found d.good.file d.good.found) has d.good.drawn not_drawn
@@ -83,7 +84,7 @@ module _ (r : Request) (a : Around) (status : ℕ) (shelf : Shelved) (is : a.tol
   picture_is file other one two has other_has drawn other_drawn =
       let same = ap (chart_of r.range) (file_is file other has other_has) in cc (same, drawn, other_drawn)
 
-  complete : (end : Ending) → Draws r a end → Due (status_number end) status → (file picture : List ℕ) →
+  complete : (end : ChartEnding) → Draws r a end → Due (status_number end) status → (file picture : List ℕ) →
       found_in shelf r.file ≡ Some file →
       chart_of r.range file ≡ Ok picture → NoPutFailed a →
       ((status ≡ 0) × Gains a.output a.output_after (picture ∷ [])) ⊎ (status ≡ 7)
@@ -100,7 +101,8 @@ module _ (r : Request) (a : Around) (status : ℕ) (shelf : Shelved) (is : a.tol
   complete Write d due file picture has drawn sound = absurd (sound d.written.rose)
   complete Memory d due file picture has drawn sound = ⊎_elim (λ is. inr is) (λ is. inr is) due
 
-none_due : (end : Ending) (a : Around) (status : ℕ) → Comes None a end → Due (status_number end) status → Due 2 status
+none_due : (end : ChartEnding) (a : Around) (status : ℕ) → Comes None a end → Due (status_number end) status →
+    Due 2 status
 none_due Done a status c due = absurd c
 none_due TooLarge a status c due = absurd c
 none_due (Line number) a status c due = absurd c
@@ -110,8 +112,8 @@ none_due Write a status c due = absurd c
 none_due Memory a status c due = only 2 status due
 
 -- the status of a run that ended so, and said that, is the one that is due
-pub exact : (request : Option Request) (a : Around) (e : Errors) (end : Ending) → Comes request a end → Said end e →
-    ExactFor request a e.status
+pub exact : (request : Option Request) (a : Around) (e : Errors) (end : ChartEnding) → Comes request a end →
+    Said end e → ExactFor request a e.status
 exact None a e end c said = none_due end a e.status c (said_due end e said)
 exact (Some r) a e end c said = let due = said_due end e said in record {
   unread = λ shelf is none. unread r a e.status shelf is end c due none;

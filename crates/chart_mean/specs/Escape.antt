@@ -4,6 +4,7 @@ use Rattle.std.specs.Prelude.{ℕ, ◌==◌, ◌&&◌, ◌||◌, not, nat_le, Bo
 use Rattle.std.specs.Prelude.{bytes_eq, if◌then◌else◌}
 use Rattle.std.specs.List.{flat_map, list_any}
 
+-- how one byte is spelled in a picture
 abbrev pub escaped_byte : ℕ → List ℕ
 escaped_byte byte =
     if byte == 38 then codes "&amp;"
@@ -13,6 +14,7 @@ escaped_byte byte =
     else if nat_le 32 byte && nat_le byte 126 then byte ∷ []
     else codes "&#65533;"
 
+-- a text as it is spelled in a picture, byte by byte
 abbrev pub escaped : List ℕ → List ℕ
 escaped text = flat_map escaped_byte text
 

@@ -6,7 +6,7 @@ use Rattle.script_mean.specs.Words.{Word}
 use Rattle.chart_mean.specs.Says.{Says, deliver, packet, view, out, other, aside}
 use Rattle.chart_mean.specs.Place.{Line, down, y_of}
 use Rattle.chart_mean.specs.Escape.{escaped}
-use Rattle.chart_mean.specs.declared.types.Sent.{Sent}
+use Rattle.chart_mean.specs.declared.types.SentPacket.{SentPacket}
 
 -- the name of the sign by which a line is drawn
 abbrev pub sign_of : Says → Word
@@ -26,31 +26,32 @@ abbrev pub carries : Word → Says → Bool
 carries wanted (packet member body) = bytes_eq body wanted && not (bytes_eq body (codes "-"))
 carries wanted _ = false
 
+-- the member that sends the packet of a line, 0 for a line of any other kind
 abbrev pub sender_of : Says → ℕ
 sender_of (packet member body) = member
 sender_of _ = 0
 
 -- the bearer of a body after one more line
-abbrev pub bearer_next : Word → Option Sent → Line → Option Sent
+abbrev pub bearer_next : Word → Option SentPacket → Line → Option SentPacket
 bearer_next wanted found line =
     if carries wanted line.says then Some (record { x = line.x; member = sender_of line.says }) else found
 
 -- the bearer of a body: the last packet of these lines that carries it
-abbrev pub bearer : List Line → Word → Option Sent
+abbrev pub bearer : List Line → Word → Option SentPacket
 bearer before wanted = fold (bearer_next wanted) None before
 
 -- a packet that another member than this one sent
-abbrev pub from_another : ℕ → Option Sent → Option Sent
+abbrev pub from_another : ℕ → Option SentPacket → Option SentPacket
 from_another member None = None
 from_another member (Some sent) = if sent.member == member then None else Some sent
 
 -- the packet that brings what a line delivers: the bearer of the body, unless the member sent that itself
-abbrev pub bringer : (Word → Option Sent) → Says → Option Sent
+abbrev pub bringer : (Word → Option SentPacket) → Says → Option SentPacket
 bringer bearers (deliver kind member body) = from_another member (bearers body)
 bringer bearers _ = None
 
 -- an arrow from a packet, if there is one, to a place
-abbrev pub arrow : Option Sent → (x y : ℕ) → List ℕ
+abbrev pub arrow : Option SentPacket → (x y : ℕ) → List ℕ
 arrow None x y = []
 arrow (Some sent) x y =
     codes "<line class='arrow'" ++ numbered (codes "x1") sent.x ++ numbered (codes "y1") (down sent.member)
@@ -73,7 +74,7 @@ sign line = codes "<use href='#" ++ sign_of line.says ++ codes "'" ++ numbered (
     numbered (codes "y") (y_of line.says) ++ codes "/>"
 
 -- the mark of a line, with an arrow from the packet that brings what it delivers
-abbrev pub mark : Option Sent → Line → List ℕ
+abbrev pub mark : Option SentPacket → Line → List ℕ
 mark sent line = title line ++ arrow sent line.x (y_of line.says) ++ sign line ++ tenth line ++ codes "</g>\n"
 
 -- the marks of lines that stand after others, one each

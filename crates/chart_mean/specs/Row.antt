@@ -21,6 +21,7 @@ abbrev pub stay_turn : ℕ → Option Stay → List Turn
 stay_turn x None = []
 stay_turn x (Some stay) = record { x = x; stay = stay } ∷ []
 
+-- a member's turn at a line, if the line says that it is in a view or out from then on
 abbrev pub turn_at : ℕ → Line → List Turn
 turn_at member line = stay_turn line.x (stay_of member line.says)
 
@@ -28,6 +29,7 @@ turn_at member line = stay_turn line.x (stay_of member line.says)
 abbrev pub turns_at : ℕ → List Line → List Turn
 turns_at member lines = flat_map (turn_at member) lines
 
+-- the first turn of each member, at the left end: where it is isn't told yet
 abbrev pub first_turn : Turn
 first_turn = record { x = left; stay = Untold }
 

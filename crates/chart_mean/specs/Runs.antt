@@ -12,8 +12,8 @@ use Rattle.outside.specs.declared.sink.Sink as outputs
 use Rattle.chart_mean.specs.Picture.{chart_of}
 use Rattle.chart_mean.specs.Words.{Request, request_of}
 use Rattle.chart_mean.specs.Ends.{Said}
-use Rattle.chart_mean.specs.declared.types.Ending.{Ending}
-use Rattle.chart_mean.specs.declared.types.Ending.TheVariants.{Done, TooLarge, Line, Words, Read, Write, Memory}
+use Rattle.chart_mean.specs.declared.types.ChartEnding.{ChartEnding}
+use Rattle.chart_mean.specs.declared.types.ChartEnding.TheVariants.{Done, TooLarge, Line, Words, Read, Write, Memory}
 
 -- What a run began with and what it left: what the shelf told, its count of faults before and after, and what the
 -- output told.
@@ -24,11 +24,13 @@ pub record Around : Type 0 where
   pub output : Tells
   pub output_after : Tells
 
+-- What a run began with and what it left, from what the shelf told, its count of faults before and after, and what the
+-- output told before and after.
 abbrev pub surrounding : Option Shelved → (reads reads_after : ℕ) → (output output_after : Tells) → Around
 surrounding told reads reads_after output output_after =
     record { told = told; reads = reads; reads_after = reads_after; output = output; output_after = output_after }
 
--- The same, by what a shelf and an output were before and after.
+-- What a run began with and what it left, by what a shelf and an output were before and after.
 abbrev pub around : {S O : Type 0} → shelves.Ghosts S → outputs.Ghosts O → S → S → O → O → Around
 around s o shelf shelf_after out out_after = surrounding (s.told shelf) (s.faults shelf) (s.faults shelf_after)
     (tells_of o out) (tells_of o out_after)
@@ -76,7 +78,7 @@ pub record Missed (r : Request) (a : Around) : Type 0 where
   pub untouched : a.output_after ≡ a.output
 
 -- How a run that was asked for a picture ended.
-abbrev pub Draws : Request → Around → Ending → Type 0
+abbrev pub Draws : Request → Around → ChartEnding → Type 0
 Draws r a Done = Whole r a
 Draws r a TooLarge = Refused r a too_large
 Draws r a (Line number) = Refused r a (bad_line number)
@@ -86,7 +88,7 @@ Draws r a Write = CutOff r a
 Draws r a Memory = (a.output_after ≡ a.output) ⊎ Begun r a
 
 -- How a run whose words ask for this, or for nothing, ended.
-abbrev pub Comes : Option Request → Around → Ending → Type 0
+abbrev pub Comes : Option Request → Around → ChartEnding → Type 0
 Comes (Some r) a end = Draws r a end
 Comes None a Words = Nothing a
 Comes None a Memory = Nothing a
@@ -118,7 +120,7 @@ ExactFor None a status = Due 2 status
 
 -- A run of these words: it ended in one way, which was said, and its status is the one that is due.
 pub record Runs (words : List Text) (a : Around) (e : Errors) : Type 0 where
-  pub end : Ending
+  pub end : ChartEnding
   pub came : Comes (request_of words) a end
   pub said : Said end e
   pub exact : ExactFor (request_of words) a e.status

@@ -16,6 +16,7 @@ pub data Says : Type 0 where
   other : (verb : Word) (member : ℕ) → Says
   aside : Says
 
+-- whether a word is one of these
 abbrev pub is_one_of : List Word → Word → Bool
 is_one_of words word = list_any (bytes_eq word) words
 

@@ -6,6 +6,7 @@ abbrev pub ended_lines : List (List ℕ) → List ℕ
 ended_lines [] = []
 ended_lines (line ∷ lines) = line ++ 10 ∷ ended_lines lines
 
+-- the first lines inside a picture: its style sheet, the signs that marks use, and the white background
 unfoldable pub style : List ℕ
 style = ended_lines
     (codes "<style>"

@@ -9,12 +9,12 @@ use Rattle.program_streams.specs.Streams.{HandsOn, Stream}
 use Rattle.chart_mean.specs.Words.{Request, request_of}
 use Rattle.chart_mean.specs.Ends.{Said}
 use Rattle.chart_mean.specs.Runs.{surrounding, Good, Comes, Runs}
-use Rattle.chart_mean.specs.declared.types.Ending.{Ending}
-use Rattle.chart_mean.specs.declared.types.Ending.TheVariants.{Done, TooLarge, Line, Words, Read, Write, Memory}
+use Rattle.chart_mean.specs.declared.types.ChartEnding.{ChartEnding}
+use Rattle.chart_mean.specs.declared.types.ChartEnding.TheVariants.{Done, TooLarge, Line, Words, Read, Write, Memory}
 
 -- How a run whose picture was put ended, by whether the stream got all: if it lacks something, that is a fault of
 -- writing.
-abbrev pub end_after_delivery : Bool → Ending → Ending
+abbrev pub end_after_delivery : Bool → ChartEnding → ChartEnding
 end_after_delivery true end = end
 end_after_delivery false Done = Write
 end_after_delivery false TooLarge = TooLarge
@@ -30,7 +30,7 @@ end_after_delivery false Memory = Memory
 pub record RunsThrough (words : List Text) (told : Option Shelved) (reads reads_after : ℕ) (out err : Stream)
     (status : ℕ) : Type 0 where
   pub put : Tells
-  pub end : Ending
+  pub end : ChartEnding
   pub came : Comes (request_of words) (surrounding told reads reads_after out.before put) end
   pub whole : Bool
   pub handed_on : HandsOn put out.after out.holds whole

@@ -10,6 +10,7 @@ use Rattle.chart_mean.specs.declared.types.Range.{Range}
 abbrev pub rules : List Rule
 rules = required (codes "report") ∷ option (codes "from") ∷ option (codes "to") ∷ []
 
+-- the command line of `runchart`, by these rules
 abbrev pub command : App
 command = command_of (codes "runchart") rules
 

@@ -8,4 +8,4 @@ mod types;
 
 pub use crate::examples::read_lines;
 pub use crate::laws::{each_line_has_its_mark, text_is_escaped};
-pub use crate::types::{Ending, Range, Sent, Stay, Turn};
+pub use crate::types::{ChartEnding, Range, SentPacket, Stay, Turn};

@@ -1,7 +1,7 @@
 //! The types of pictures.
 ghost use Rattle.std.specs.Prelude.{◌≡◌};
 ghost use Rattle.chart_mean.specs.Causes.{unread, unwritten};
-ghost use Rattle.chart_mean.specs.declared.types.Ending.TheVariants as ending;
+ghost use Rattle.chart_mean.specs.declared.types.ChartEnding.TheVariants as ending;
 
 use outside::{ShelfError, SinkError};
 use std::alloc::AllocError;
@@ -32,14 +32,14 @@ pub struct Turn {
 
 /// A packet that was sent: where it stands in the picture, and the member that sent it.
 #[derive(Clone, Copy, Debug, PartialEq, Eq)]
-pub struct Sent {
+pub struct SentPacket {
     pub x: u64,
     pub member: u8,
 }
 
 /// How the program ends.
 #[derive(Clone, Copy, Debug, PartialEq, Eq)]
-pub enum Ending {
+pub enum ChartEnding {
     /// The picture was written.
     Done,
     /// The file has over 67,108,864 bytes.
@@ -56,32 +56,32 @@ pub enum Ending {
     Memory,
 }
 
-impl From<AllocError> for Ending {
+impl From<AllocError> for ChartEnding {
     ghost from_gives = { λ _ end. end ≡ ending.Memory };
 
-    fn from(_: AllocError) -> Ending {
-        Ending::Memory
+    fn from(_: AllocError) -> ChartEnding {
+        ChartEnding::Memory
     }
 }
 
-impl From<ShelfError> for Ending {
+impl From<ShelfError> for ChartEnding {
     ghost from_gives = { λ cause end. end ≡ unread cause };
 
-    fn from(cause: ShelfError) -> Ending {
+    fn from(cause: ShelfError) -> ChartEnding {
         match cause {
-            ShelfError::Failed => Ending::Read,
-            ShelfError::Memory => Ending::Memory,
+            ShelfError::Failed => ChartEnding::Read,
+            ShelfError::Memory => ChartEnding::Memory,
         }
     }
 }
 
-impl From<SinkError> for Ending {
+impl From<SinkError> for ChartEnding {
     ghost from_gives = { λ cause end. end ≡ unwritten cause };
 
-    fn from(cause: SinkError) -> Ending {
+    fn from(cause: SinkError) -> ChartEnding {
         match cause {
-            SinkError::Failed => Ending::Write,
-            SinkError::Memory => Ending::Memory,
+            SinkError::Failed => ChartEnding::Write,
+            SinkError::Memory => ChartEnding::Memory,
         }
     }
 }

@@ -37,7 +37,7 @@ command_of name rules = fold with_rule (on_top plain_top (new_app name)) rules
 abbrev pub read_in : {A : Type 0} → App → (List Row → Option A) → List Text → Option A
 read_in app reader words = if is_empty (fault_of app words) then reader (matches_of app words) else None
 
--- the same where nothing reads it: all that `clap` found
+-- all that `clap` found in words, if `clap` takes them
 abbrev pub rows_in : App → List Text → Option (List Row)
 rows_in app words = if is_empty (fault_of app words) then Some (matches_of app words) else None
 

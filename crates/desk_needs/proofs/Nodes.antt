@@ -5,8 +5,8 @@ use Rattle.std.proofs.Common.{mul-le-mul_left, arith}
 use Rattle.std.specs.List.{sum_by, range_with_len}
 use Rattle.std.specs.Option.{option_map_or}
 use Rattle.std.proofs.lemmas.List.Sums.{sum_by-cons}
-use Rattle.layer_ast.specs.declared.tokens.Dir.{Dir}
-use Rattle.layer_ast.specs.declared.tokens.Dir.TheVariants.{Up, Down}
+use Rattle.layer_words.specs.declared.events.Dir.{Dir}
+use Rattle.layer_words.specs.declared.events.Dir.TheVariants.{Up, Down}
 use Rattle.layer_mean.specs.Queue.{beyond, layer_at}
 use Rattle.layer_mean.specs.Tree.{ContentTree, EmissionTree, HandlerTree, LayerTree}
 use Rattle.layer_mean.specs.Visit.{Met, met, handler_for}

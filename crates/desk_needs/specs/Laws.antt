@@ -1,8 +1,8 @@
 -- A typed layer fits a desk that is made for it, and a run has what its visits need.
 use Rattle.std.specs.Prelude.{◌≡◌, ℕ, ◌+◌, ◌≤◌, true, None, List}
 use Rattle.msg_core.specs.declared.message.Header.{Header}
-use Rattle.layer_ast.specs.declared.tokens.Dir.{Dir}
-use Rattle.layer_ast.specs.declared.tokens.Kind.{Kind}
+use Rattle.layer_words.specs.declared.events.Dir.{Dir}
+use Rattle.layer_words.specs.declared.events.Kind.{Kind}
 use Rattle.layer_mean.specs.Tree.{LayerTree}
 use Rattle.std.specs.List.{sum_by}
 use Rattle.layer_mean.specs.declared.run.Event.{Event}

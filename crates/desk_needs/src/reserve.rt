@@ -8,7 +8,9 @@ ghost use Rattle.layer_desk.specs.Need.{lifts, row_lifts, emission_lifts, in_han
 ghost use Rattle.desk_needs.specs.Layouts.{most, layout_of};
 ghost use Rattle.desk_needs.specs.Reserved.{layout_reserve};
 
-use typed_layer::{Block, Emission, Handler, MessageExpression, Row, Statement, TypedLayer};
+use typed_layer::{
+    Emission, Handler, MessageExpression, RowExpression, Statement, StatementBlock, TypedLayer,
+};
 
 /// The most numbers and messages that a handler's block declares, and the most messages that one has in hand, as far as
 /// 32 bits hold that number.
@@ -85,7 +87,7 @@ fn of_message(message: &MessageExpression) -> u32
     }
 }
 
-fn of_row(row: &Row) -> u32
+fn of_row(row: &RowExpression) -> u32
     ensures { result ≡ held_at_most (row_lifts (row_tree row.now)) }
 {
     match &row.message {
@@ -152,7 +154,7 @@ fn of_statement(statement: &Statement) -> u32
 }
 
 #[cycle(in_hand)]
-fn of_block(block: &Block) -> u32
+fn of_block(block: &StatementBlock) -> u32
     ensures { result ≡ held_at_most (block_in_hand (block_tree block.now)) }
 {
     let mut most = 0;

@@ -132,7 +132,7 @@ fn takes_pieces<O: Sink>(alloc: Global, sink: &mut O) -> Result<bool, AllocError
 
 /// Whether a slow stream gets every byte in its order.
 fn slow_gets_all(alloc: Global) -> io::Result<bool> {
-    let mut sink = StdSink::of(alloc, Slow::of(alloc, 1_000_000))?;
+    let mut sink = StdSink::new(alloc, Slow::of(alloc, 1_000_000))?;
     Ok(
         takes_pieces(alloc, &mut sink)?
             && is_whole(&mut sink, 135_537)
@@ -142,7 +142,7 @@ fn slow_gets_all(alloc: Global) -> io::Result<bool> {
 
 /// Whether a stream that breaks got what it took, and the count rose.
 fn broken_is_counted(alloc: Global) -> io::Result<bool> {
-    let mut sink = StdSink::of(alloc, Slow::of(alloc, 4))?;
+    let mut sink = StdSink::new(alloc, Slow::of(alloc, 4))?;
     Ok(
         takes(&mut sink, b"hello")
             && sink.finish() == Err(SinkError::Failed)
@@ -167,7 +167,7 @@ fn drip_is_read(alloc: Global) -> io::Result<bool> {
 #[test]
 fn shelves_and_sinks_in_memory(rt: HostRuntime) -> Result<(), Fail> {
     let alloc = rt.alloc();
-    let mut shelf = MemShelf::of(files(alloc)?, vec![in alloc; false, true]?);
+    let mut shelf = MemShelf::new(files(alloc)?, vec![in alloc; false, true]?);
     assert!(rt; gives(alloc, &mut shelf, "a", b"hello"));
     assert!(rt; fails(alloc, &mut shelf, "a"));
     let mut still = StillShelf::of(files(alloc)?);
@@ -179,7 +179,7 @@ fn shelves_and_sinks_in_memory(rt: HostRuntime) -> Result<(), Fail> {
 #[test]
 fn sinks_in_memory(rt: HostRuntime) -> Result<(), Fail> {
     let alloc = rt.alloc();
-    let mut sink = MemSink::of(alloc, vec![in alloc; None, Some(2)]?);
+    let mut sink = MemSink::new(alloc, vec![in alloc; None, Some(2)]?);
     assert!(rt; takes(&mut sink, b"one\n"));
     assert!(rt; !takes(&mut sink, b"four\n"));
     assert!(rt; sink.contents() == b"one\nfo".as_slice());

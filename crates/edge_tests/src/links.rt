@@ -52,7 +52,7 @@ fn datagrams_meet_their_fates(rt: HostRuntime) -> Result<(), Fail> {
     let listens = vec![in alloc; false, false, true]?;
     let recvs = vec![in alloc; false, false, false, true]?;
     let mut room = room(alloc)?;
-    let mut links = MemLinks::of(alloc, fates, listens, recvs);
+    let mut links = MemLinks::new(alloc, fates, listens, recvs);
     assert!(rt; exchanged(&mut links, room.as_mut_slice()) == Ok(true));
     assert!(rt; links.handed().len() == 3 && links.send_faults() == 1 && links.faults() == 2);
     Ok(())
@@ -60,9 +60,9 @@ fn datagrams_meet_their_fates(rt: HostRuntime) -> Result<(), Fail> {
 
 #[test]
 fn clocks_go_on(rt: HostRuntime) -> Result<(), Fail> {
-    let mut clock = MemClock::of(vec![in rt.alloc(); 7]?);
+    let mut clock = MemClock::new(vec![in rt.alloc(); 7]?);
     assert!(rt; clock.now() == 7 && clock.now() == 0);
-    let mut clock = RunClock::of(&rt);
+    let mut clock = RunClock::new(&rt);
     let before = clock.now();
     thread::sleep(&rt, Duration::from_millis(20));
     assert!(rt; before < clock.now());

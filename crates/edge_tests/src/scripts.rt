@@ -1,5 +1,5 @@
 //! What no clause says: that a script is made where there is memory, and what errors of texts print.
-use run_audit::AuditError;
+use audit_judge::AuditError;
 use script_text::{Generation, ScriptError, Workload};
 use std::test::Fail;
 
@@ -11,7 +11,7 @@ fn makes_a_script(rt: HostRuntime) -> Result<(), Fail> {
         members: 3,
         raw: true,
     };
-    let mut script = Generation::begin(rt.alloc(), workload)?;
+    let mut script = Generation::new(rt.alloc(), workload)?;
     let first = script.next(rt.alloc())?;
     let second = script.next(rt.alloc())?;
     let third = script.next(rt.alloc())?;

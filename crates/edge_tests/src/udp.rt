@@ -198,7 +198,7 @@ fn datagrams_over_the_loopback(rt: HostRuntime) -> Result<(), Fail> {
     let pattern = pattern(alloc)?;
     let mut room = vec![in alloc; 0; LONGEST_DATAGRAM]?;
     let into = room.as_mut_slice();
-    let mut links = UdpLinks::of(alloc, &rt)?;
+    let mut links = UdpLinks::new(alloc, &rt)?;
     let peers = [
         peer(process, 0, 47320),
         peer(process, 1, 47320),

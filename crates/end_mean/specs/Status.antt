@@ -1,9 +1,9 @@
 -- How the program ends: its status, and its line on the standard error.
 use Rattle.std.specs.Prelude.{ℕ, List, [], ◌++◌, codes}
 use Rattle.std.specs.Fmt.{decimal}
-use Rattle.layer_ast.specs.declared.names.At.{At}
-use Rattle.layer_ast.specs.declared.tokens.Kind.{Kind}
-use Rattle.layer_ast.specs.Spelling.{kind_word}
+use Rattle.layer_words.specs.declared.places.At.{At}
+use Rattle.layer_words.specs.declared.events.Kind.{Kind}
+use Rattle.layer_words.specs.Spelling.{kind_word}
 use Rattle.script_mean.specs.Script.{ScriptFault, too_long, bad_line, no_member}
 use Rattle.audit_mean.specs.Finding as finding
 use Rattle.audit_mean.specs.Finding.{AuditFault}

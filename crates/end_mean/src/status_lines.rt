@@ -1,6 +1,6 @@
 //! The line on the standard error and the status of each end.
 ghost use Rattle.std.specs.Prelude.{◌≡◌, [], codes};
-ghost use Rattle.layer_ast.specs.declared.tokens.Kind.TheVariants.{BlockOk};
+ghost use Rattle.layer_words.specs.declared.events.Kind.TheVariants.{BlockOk};
 ghost use Rattle.script_mean.specs.Script.{too_long, bad_line, no_member};
 ghost use Rattle.audit_mean.specs.Finding as finding;
 ghost use Rattle.layer_mean.specs.declared.run.Case.TheVariants.{First, Second};

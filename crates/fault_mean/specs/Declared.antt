@@ -3,7 +3,7 @@
 use Rattle.std.specs.Prelude.{ℕ, ◌+◌, Bool, true, false, List, [], ◌∷◌, bytes_eq, Option, Some, None, option_map}
 use Rattle.std.specs.List.{find, filter, position}
 use Rattle.layer_ast.specs.declared.names.Name.{Name}
-use Rattle.layer_ast.specs.declared.names.Word.{Word}
+use Rattle.layer_words.specs.declared.words.Word.{Word}
 use Rattle.layer_ast.specs.Tree.{DeclarationTree, param, int, rows_cell, rows_array, header, ItemTree, ItemsTree}
 use Rattle.layer_ast.specs.Tree.{LayerTree, NamesTree}
 
@@ -15,24 +15,27 @@ declared_name (rows_cell at name capacity items) = name
 declared_name (rows_array at name capacity items) = name
 declared_name (header at name fields ending) = name
 
--- Whether a declaration declares a cell, a header, a param.
+-- Whether a declaration declares a cell: numbers, a queue, or an array of queues.
 abbrev pub is_cell : DeclarationTree → Bool
 is_cell (param at name value) = false
 is_cell (header at name fields ending) = false
 is_cell _ = true
 
+-- Whether a declaration declares a header.
 abbrev pub is_header : DeclarationTree → Bool
 is_header (header at name fields ending) = true
 is_header _ = false
 
+-- Whether a declaration declares a param.
 abbrev pub is_param : DeclarationTree → Bool
 is_param (param at name value) = true
 is_param _ = false
 
--- The cells and the headers of a layer, in the order of their declarations.
+-- The cells of a layer, in the order of their declarations.
 abbrev pub cells_of : LayerTree → List DeclarationTree
 cells_of layer = filter is_cell layer.declarations
 
+-- The headers of a layer, in the order of their declarations.
 abbrev pub headers_of : LayerTree → List DeclarationTree
 headers_of layer = filter is_header layer.declarations
 

@@ -3,7 +3,7 @@ use Rattle.std.specs.Prelude.{ℕ, Bool, if◌then◌else◌, List, [], ◌∷�
 use Rattle.std.specs.Cmp.Lexicographic.{slice_cmp}
 use Rattle.std.specs.List.{reduce}
 use Rattle.std.specs.Ordering.{is_lt, nat_cmp}
-use Rattle.layer_ast.specs.declared.names.At.{At}
+use Rattle.layer_words.specs.declared.places.At.{At}
 
 -- What faults are ordered by: their line, their column, and at one place the rank of their cause.
 abbrev pub key_at : At → ℕ → List ℕ

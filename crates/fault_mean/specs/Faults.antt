@@ -1,6 +1,6 @@
 -- What may be at fault in a file that a text spells.
 use Rattle.std.specs.Prelude.{ℕ, List}
-use Rattle.layer_ast.specs.declared.names.At.{At}
+use Rattle.layer_words.specs.declared.places.At.{At}
 use Rattle.fault_mean.specs.Earliest.{key_at}
 
 -- A fault of names at a place: a name that isn't declared or visible there, a name or a handler that is there already,
@@ -16,7 +16,7 @@ name_key (unknown at) = key_at at 0
 name_key (twice at) = key_at at 1
 name_key (too_many at) = key_at at 2
 
--- The same fault at another place.
+-- A fault of names moved to another place.
 abbrev pub name_fault_at : At → NameFault → NameFault
 name_fault_at at (unknown _) = unknown at
 name_fault_at at (twice _) = twice at
@@ -39,7 +39,7 @@ type_key (direction at) = key_at at 2
 type_key (header at) = key_at at 3
 type_key (initial at) = key_at at 4
 
--- The same fault at another place.
+-- A fault of types moved to another place.
 abbrev pub type_fault_at : At → TypeFault → TypeFault
 type_fault_at at (kind _) = kind at
 type_fault_at at (arity _) = arity at

@@ -1,38 +1,35 @@
 -- The limits of a file, and of a layer's text. (Those of places, headers and rows stand beside the headers of
--- messages.)
+-- messages, those of sizes beside what layers mean.)
 use Rattle.std.specs.Prelude.{ℕ, Bool, true, ◌&&◌, nat_le, if◌then◌else◌, List, [], ◌∷◌, ◌++◌, flat_map, filter, drop}
 use Rattle.std.specs.Option.{option_map_or}
-use Rattle.layer_ast.specs.declared.names.At.{At}
+use Rattle.layer_words.specs.declared.places.At.{At}
 use Rattle.layer_ast.specs.Tree.{DeclarationTree, rows_cell, rows_array, ItemTree, LayerTree, PlaceTree, SizeTree}
 use Rattle.layer_ast.specs.Tree.{fixed, sized, StatementTree, each}
+use Rattle.layer_mean.specs.Limits.{largest_capacity, longest_loop}
 use Rattle.fault_mean.specs.Kinds.{a_number, allows}
 use Rattle.fault_mean.specs.Places.{param_value}
 use Rattle.fault_mean.specs.Scope.{layer_statements}
 use Rattle.msg_core.specs.Headers.{most_fields}
 
--- The most layers of a file; the most params and cells of a layer, and the most handlers; the most names that a handler
--- declares.
+-- The most layers that a file declares.
 abbrev pub most_layers : ℕ
 most_layers = 64
 
+-- The most params that a layer declares.
 abbrev pub most_params : ℕ
 most_params = 16
 
+-- The most cells that a layer declares.
 abbrev pub most_cells : ℕ
 most_cells = 16
 
+-- The most handlers of a layer.
 abbrev pub most_handlers : ℕ
 most_handlers = 64
 
+-- The most names that a handler declares, at its head and in its blocks.
 abbrev pub most_names : ℕ
 most_names = 64
-
--- The largest capacity of a queue, and the largest maximum of a loop.
-abbrev pub largest_capacity : ℕ
-largest_capacity = 64
-
-abbrev pub longest_loop : ℕ
-longest_loop = 32
 
 -- The numbers of a row beyond the most.
 abbrev pub numbers_beyond : List ItemTree → List ItemTree
@@ -53,12 +50,13 @@ pub record LimitedSize : Type 0 where
 abbrev pub is_within : ℕ → ℕ → Bool
 is_within most number = nat_le 1 number && nat_le number most
 
--- The sizes of a declaration, and of a statement.
+-- The size that a declaration has: the capacity of a queue, or of each queue of an array.
 abbrev pub capacity_in : DeclarationTree → List LimitedSize
 capacity_in (rows_cell at name capacity items) = record { size = capacity; most = largest_capacity } ∷ []
 capacity_in (rows_array at name capacity items) = record { size = capacity; most = largest_capacity } ∷ []
 capacity_in _ = []
 
+-- The size that a statement has, without those in its blocks: the maximum of a loop.
 abbrev pub maximum_in : StatementTree → List LimitedSize
 maximum_in (each at name below most block) = record { size = most; most = longest_loop } ∷ []
 maximum_in _ = []

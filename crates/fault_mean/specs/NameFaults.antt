@@ -4,8 +4,8 @@ use Rattle.std.specs.Prelude.{drop, bytes_eq, Option, Some, None}
 use Rattle.std.specs.List.{list_any}
 use Rattle.std.specs.Option.{option_map_or}
 use denote.Enum.Bare.{sameb}
-use Rattle.layer_ast.specs.contracts.tokens.Dir as dir_row
-use Rattle.layer_ast.specs.contracts.tokens.Kind as kind_row
+use Rattle.layer_words.specs.contracts.events.Dir as dir_row
+use Rattle.layer_words.specs.contracts.events.Kind as kind_row
 use Rattle.layer_ast.specs.declared.names.Name.{Name}
 use Rattle.layer_ast.specs.Tree.{PoppedTree, Expected, common, HandlerTree, DeclarationTree, int, rows_cell, rows_array}
 use Rattle.layer_ast.specs.Tree.{ItemTree, LayerTree, PlaceTree, FileTree}
@@ -47,6 +47,7 @@ use_faults scope (of_name name) = unless (is_visible scope name.word) (unknown n
 use_faults scope (of_label queue label) =
     unless (list_any (λ i. same_word i.name label) (row_of scope.layer queue.word)) (unknown label.at)
 
+-- The faults of uses in a scope, in their order.
 abbrev pub uses_faults : Scope → List Use → List NameFault
 uses_faults scope = flat_map (use_faults scope)
 

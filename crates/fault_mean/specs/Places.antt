@@ -2,8 +2,8 @@
 use Rattle.std.specs.Prelude.{ℕ, List, ◌++◌, map, flat_map, filter_map, bytes_eq, find, Option, Some, None, option_map}
 use Rattle.std.specs.Prelude.{option_and_then, unwrap_or, is_some, if◌then◌else◌}
 use Rattle.std.specs.Option.{option_or}
-use Rattle.layer_ast.specs.declared.names.At.{At}
-use Rattle.layer_ast.specs.declared.names.Word.{Word}
+use Rattle.layer_words.specs.declared.places.At.{At}
+use Rattle.layer_words.specs.declared.words.Word.{Word}
 use Rattle.layer_ast.specs.Tree.{DeclarationTree, param, GivenTree, LayerTree, PlaceTree, FileTree}
 use Rattle.fault_mean.specs.Declared.{declaration_of}
 
@@ -47,10 +47,11 @@ called_at file place = if is_some (layer_among file.layers place.name.word)
 abbrev pub judged_layers : FileTree → List Judged
 judged_layers file = map written file.layers ++ filter_map (called_at file) file.places
 
--- The faults of a judged layer, and those of all judged layers of a file.
+-- The faults of a judged layer; those of a layer of the library are moved to the place that names it.
 abbrev pub faults_of_judged : {F : Type 0} → (At → F → F) → (LayerTree → List F) → Judged → List F
 faults_of_judged moved faults (written layer) = faults layer
 faults_of_judged moved faults (called at layer) = map (moved at) (faults layer)
 
+-- The faults of all judged layers of a file: those that the file writes first, then those of the library.
 abbrev pub faults_of_layers : {F : Type 0} → (At → F → F) → (LayerTree → List F) → FileTree → List F
 faults_of_layers moved faults file = flat_map (faults_of_judged moved faults) (judged_layers file)

@@ -1,10 +1,10 @@
 -- What it means that a small text is judged.
 use Rattle.std.specs.Prelude.{◌≡◌, ℕ, List, [], ◌∷◌, ◌++◌, flat_map, codes, Option, None}
-use Rattle.layer_ast.specs.declared.names.At.{At}
-use Rattle.layer_ast.specs.declared.tokens.Dir.{Dir}
-use Rattle.layer_ast.specs.declared.tokens.Dir.TheVariants.{Up, Down}
-use Rattle.layer_ast.specs.declared.tokens.Kind.{Kind}
-use Rattle.layer_ast.specs.declared.tokens.Kind.TheVariants.{Cast, Timer}
+use Rattle.layer_words.specs.declared.places.At.{At}
+use Rattle.layer_words.specs.declared.events.Dir.{Dir}
+use Rattle.layer_words.specs.declared.events.Dir.TheVariants.{Up, Down}
+use Rattle.layer_words.specs.declared.events.Kind.{Kind}
+use Rattle.layer_words.specs.declared.events.Kind.TheVariants.{Cast, Timer}
 use Rattle.layer_ast.specs.Reader.{file_of}
 use Rattle.layer_ast.specs.Samples.{at, name_at}
 use Rattle.layer_ast.specs.Spells.{Spells}
@@ -22,7 +22,7 @@ pub record IsJudgedOver (library : List LayerTree) (text : List ℕ) (fault : Op
   pub spelled : Spells text (file_over library text)
   pub judged : file_fault (file_over library text) ≡ fault
 
--- The same without a library.
+-- A text spells the file as which it is read, and without a library this is the first fault of that file.
 abbrev pub IsJudged : List ℕ → Option FileFault → Type 0
 IsJudged = IsJudgedOver []
 
@@ -55,10 +55,11 @@ handler at direction kind names block = record {
   block = block;
 }
 
--- On this line, with two blanks in front: `down Timer(t)`, `down Cast(p, m)` and `up Cast(o, m)`.
+-- `down Timer(t)` on this line, with two blanks in front.
 abbrev pub timer_down : ℕ → StatementTrees → HandlerTree
 timer_down line = handler (at line 3) Down Timer record { first = name_at (codes "t") line 14; rest = [] }
 
+-- `down Cast(p, m)` on this line, with two blanks in front.
 abbrev pub cast_down : ℕ → StatementTrees → HandlerTree
 cast_down line =
     handler (at line 3) Down Cast record {
@@ -67,6 +68,7 @@ cast_down line =
           [];
     }
 
+-- `up Cast(o, m)` on this line, with two blanks in front.
 abbrev pub cast_up : ℕ → StatementTrees → HandlerTree
 cast_up line =
     handler (at line 3) Up Cast record { first = name_at (codes "o") line 11; rest = name_at (codes "m") line 14 ∷ [] }

@@ -3,10 +3,10 @@ use Rattle.std.specs.Prelude.{◌≡◌, ℕ, ◌+◌, List, [], ◌∷◌, map,
 use Rattle.std.specs.List.{enumerate_from, range_with_len}
 use Rattle.layer_ast.specs.declared.names.Name.{Name}
 use Rattle.layer_ast.specs.declared.syntax.Ending.TheVariants.{Passes}
-use Rattle.layer_ast.specs.declared.syntax.Shape.TheVariants.{One}
-use Rattle.layer_ast.specs.declared.tokens.Dir.TheVariants.{Up}
+use Rattle.layer_words.specs.declared.sorts.Shape.TheVariants.{One}
+use Rattle.layer_words.specs.declared.events.Dir.TheVariants.{Up}
 use Rattle.layer_ast.specs.Samples.{at, name_at}
-use Rattle.layer_ast.specs.Spelling.{kinds}
+use Rattle.layer_words.specs.Spelling.{kinds}
 use Rattle.layer_ast.specs.Tree.{DeclarationTree, HandlerTree, FileTree, StatementTrees, bind, header, int, more, none}
 use Rattle.layer_ast.specs.Tree.{number, param}
 use Rattle.fault_mean.specs.Faults.{too_many}
@@ -26,13 +26,15 @@ HasLimit file most = (name_fault (file most) ≡ None) ×
 abbrev pub declaring : List DeclarationTree → FileTree
 declaring declarations = small_file 3 declarations []
 
--- 16 params, 16 cells, 7 headers.
+-- 16 params are no fault, and the 17th is one.
 abbrev pub Params : Type 0
 Params = HasLimit (λ count. declaring (map (λ n. param n.at n 0) (numbered_names count))) 16
 
+-- 16 cells are no fault, and the 17th is one.
 abbrev pub Cells : Type 0
 Cells = HasLimit (λ count. declaring (map (λ n. int n.at n One None) (numbered_names count))) 16
 
+-- 7 headers are no fault, and the 8th is one.
 abbrev pub Headers : Type 0
 Headers = HasLimit (λ count. declaring (map (λ n. header n.at n None Passes) (numbered_names count))) 7
 

@@ -4,9 +4,9 @@ use Rattle.std.specs.Prelude.{Bool, if◌then◌else◌, List, [], ◌∷◌, �
 use Rattle.std.specs.List.{list_any}
 use Rattle.std.specs.Option.{option_map_or}
 use Rattle.layer_ast.specs.declared.names.Name.{Name}
-use Rattle.layer_ast.specs.declared.names.Word.{Word}
-use Rattle.layer_ast.specs.declared.syntax.Sort.{Sort}
-use Rattle.layer_ast.specs.declared.syntax.Sort.TheVariants.{Int, Msg, Part}
+use Rattle.layer_words.specs.declared.words.Word.{Word}
+use Rattle.layer_words.specs.declared.sorts.Sort.{Sort}
+use Rattle.layer_words.specs.declared.sorts.Sort.TheVariants.{Int, Msg, Part}
 use Rattle.layer_ast.specs.Tree.{LayerTree, HandlerTree, NamesTree, PoppedTree, QueueTree, StatementTree, bind, push}
 use Rattle.layer_ast.specs.Tree.{take, when, choose, each, StatementTrees, none, more}
 use Rattle.fault_mean.specs.Declared.{declared_name, names_in}
@@ -27,10 +27,11 @@ pub record Scope : Type 0 where
 abbrev pub layer_scope : LayerTree → Scope
 layer_scope layer = record { layer = layer; locals = [] }
 
--- The visible names, and whether a word is one.
+-- The visible names: those that the layer declares, then the locals.
 abbrev pub visible : Scope → List Name
 visible scope = map declared_name scope.layer.declarations ++ map (λ l. l.name) scope.locals
 
+-- Whether a word is one of the visible names.
 abbrev pub is_visible : Scope → Word → Bool
 is_visible scope word = list_any (λ name. bytes_eq name.word word) (visible scope)
 
@@ -52,14 +53,19 @@ popped_names popped = option_map_or (λ p. names_in p.fields) popped []
 abbrev pub sort_after : LayerTree → Option PoppedTree → Sort
 sort_after layer popped = option_map_or (λ p. if declared_as is_end layer p.name.word then Part else Msg) popped Msg
 
--- The names that a handler declares at its head, and the scope of its condition and block.
+-- The names that a handler declares at its head: those of the event's arguments, then those of the fields of the header
+-- that it takes off.
 abbrev pub head_names : HandlerTree → List Name
 head_names handler = names_in (Some handler.names) ++ popped_names handler.popped
 
+-- The sorts of the names that a handler gives to the event's arguments: numbers, and for the message what follows the
+-- header that is taken off.
 abbrev pub argument_sorts : LayerTree → HandlerTree → List Sort
 argument_sorts layer handler =
     map (λ wanted. if allows wanted Msg then sort_after layer handler.popped else Int) (arguments_of handler.kind)
 
+-- The scope of a handler's condition, in which its block begins: the names of its head, where those of header fields
+-- are numbers.
 abbrev pub head_scope : LayerTree → HandlerTree → Scope
 head_scope layer handler = record {
   layer = layer;
@@ -102,10 +108,11 @@ abbrev mutual
       record { scope = scope; statement = statement }
       ∷ (standing_inside scope statement ++ standing_in (scope_after scope statement) rest)
 
--- The statements of a handler, and of a layer.
+-- The statements of a handler's block and those inside them, in text order, each in its scope.
 abbrev pub handler_statements : LayerTree → HandlerTree → List Standing
 handler_statements layer handler = standing_in (head_scope layer handler) handler.block
 
+-- The statements of all handlers of a layer, in text order, each in its scope.
 abbrev pub layer_statements : LayerTree → List Standing
 layer_statements layer = flat_map (handler_statements layer) layer.handlers
 

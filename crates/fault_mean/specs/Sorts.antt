@@ -2,11 +2,11 @@
 use Rattle.std.specs.Prelude.{Bool, true, false, ◌&&◌, ◌||◌, if◌then◌else◌, find, bytes_eq, Option, Some, None}
 use Rattle.std.specs.Prelude.{option_map}
 use Rattle.std.specs.Option.{option_or}
-use Rattle.layer_ast.specs.declared.names.At.{At}
-use Rattle.layer_ast.specs.declared.names.Word.{Word}
-use Rattle.layer_ast.specs.declared.syntax.Shape.TheVariants.{One}
-use Rattle.layer_ast.specs.declared.syntax.Sort.{Sort}
-use Rattle.layer_ast.specs.declared.syntax.Sort.TheVariants.{Int, Msg, Part}
+use Rattle.layer_words.specs.declared.places.At.{At}
+use Rattle.layer_words.specs.declared.words.Word.{Word}
+use Rattle.layer_words.specs.declared.sorts.Shape.TheVariants.{One}
+use Rattle.layer_words.specs.declared.sorts.Sort.{Sort}
+use Rattle.layer_words.specs.declared.sorts.Sort.TheVariants.{Int, Msg, Part}
 use Rattle.layer_ast.specs.Tree.{ExpressionTree, number, me, members, ltime, named, element, square, rows, item, size}
 use Rattle.layer_ast.specs.Tree.{binary, apply, pick, MessageTree, bare, built, BuiltTree, nothing, held, cut, tail}
 use Rattle.layer_ast.specs.Tree.{join, ArgumentTree, value, content, DeclarationTree, LayerTree, QueueTree, SizeTree}
@@ -16,7 +16,7 @@ use Rattle.fault_mean.specs.Forms.{declared_as, is_numbers, queue_name, row_of}
 use Rattle.fault_mean.specs.Kinds.{a_message, allows}
 use Rattle.fault_mean.specs.Scope.{Scope}
 
--- The place of the first token of an expression, of a message, of an argument, of a size.
+-- The place of the first token of an expression.
 abbrev pub expression_at : ExpressionTree → At
 expression_at (number at _) = at
 expression_at (me at) = at
@@ -32,6 +32,7 @@ expression_at (binary at left operator right) = at
 expression_at (apply at function operand) = at
 expression_at (pick at condition first second) = at
 
+-- The place of the first token of a message that is no bare name.
 abbrev pub built_at : BuiltTree → At
 built_at (nothing at) = at
 built_at (held at q row) = at
@@ -39,14 +40,17 @@ built_at (cut at message from length) = at
 built_at (tail at message from) = at
 built_at (join at first second) = at
 
+-- The place of the first token of a message.
 abbrev pub message_at : MessageTree → At
 message_at (bare name) = name.at
 message_at (built b) = built_at b
 
+-- The place of the first token of an argument.
 abbrev pub argument_at : ArgumentTree → At
 argument_at (value e) = expression_at e
 argument_at (content b) = built_at b
 
+-- The place of the first token of a size.
 abbrev pub size_at : SizeTree → At
 size_at (fixed at _) = at
 size_at (sized name) = name.at
@@ -66,7 +70,7 @@ abbrev pub held_sort : Scope → QueueTree → Option Sort
 held_sort scope q = option_map (λ i. i.sort)
     (find (λ i. allows a_message i.sort) (row_of scope.layer (queue_name q).word))
 
--- The sort of a message by its outermost form, where that says one.
+-- The sort of a message that is no bare name, by its outermost form, where that says one.
 abbrev pub built_sort : Scope → BuiltTree → Option Sort
 built_sort scope (nothing at) = Some Part
 built_sort scope (held at q row) = held_sort scope q
@@ -74,10 +78,13 @@ built_sort scope (cut at message from length) = Some Part
 built_sort scope (tail at message from) = Some Msg
 built_sort scope (join at first second) = Some Msg
 
+-- The sort of a message: that of its bare name, or by its outermost form, where these say one.
 abbrev pub message_sort : Scope → MessageTree → Option Sort
 message_sort scope (bare name) = name_sort scope name.word
 message_sort scope (built b) = built_sort scope b
 
+-- The sort of an argument: that of a bare name, a number for any other expression, or that of a message, where these
+-- say one.
 abbrev pub argument_sort : Scope → ArgumentTree → Option Sort
 argument_sort scope (value (named name)) = name_sort scope name.word
 argument_sort scope (value e) = Some Int

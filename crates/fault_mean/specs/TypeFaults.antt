@@ -2,15 +2,15 @@
 use Rattle.std.specs.Prelude.{ℕ, Bool, true, false, not, ◌&&◌, ◌==◌, if◌then◌else◌, List, [], ◌∷◌, ◌++◌, map, flat_map}
 use Rattle.std.specs.Prelude.{length, slice_get, Option, Some, None, option_and_then}
 use Rattle.std.specs.Option.{option_map_or}
-use Rattle.layer_ast.specs.declared.names.At.{At}
+use Rattle.layer_words.specs.declared.places.At.{At}
 use Rattle.layer_ast.specs.declared.names.Name.{Name}
-use Rattle.layer_ast.specs.declared.syntax.Shape.{Shape}
-use Rattle.layer_ast.specs.declared.syntax.Shape.TheVariants.{One, Array, Square}
-use Rattle.layer_ast.specs.declared.syntax.Sort.{Sort}
-use Rattle.layer_ast.specs.declared.syntax.Sort.TheVariants.{Msg, Part}
-use Rattle.layer_ast.specs.declared.tokens.Dir.{Dir}
-use Rattle.layer_ast.specs.declared.tokens.Dir.TheVariants.{Up, Down}
-use Rattle.layer_ast.specs.declared.tokens.Kind.{Kind}
+use Rattle.layer_words.specs.declared.sorts.Shape.{Shape}
+use Rattle.layer_words.specs.declared.sorts.Shape.TheVariants.{One, Array, Square}
+use Rattle.layer_words.specs.declared.sorts.Sort.{Sort}
+use Rattle.layer_words.specs.declared.sorts.Sort.TheVariants.{Msg, Part}
+use Rattle.layer_words.specs.declared.events.Dir.{Dir}
+use Rattle.layer_words.specs.declared.events.Dir.TheVariants.{Up, Down}
+use Rattle.layer_words.specs.declared.events.Kind.{Kind}
 use Rattle.layer_ast.specs.Tree.{ExpressionTree, QueueTree, ArgumentTree, PushedTree, SizeTree, fixed, sized}
 use Rattle.layer_ast.specs.Tree.{StatementTree, bind, set, set_square, push, take, when, choose, each, emit, Expected}
 use Rattle.layer_ast.specs.Tree.{common, HandlerTree, DeclarationTree, int, rows_cell, rows_array, LayerTree, FileTree}

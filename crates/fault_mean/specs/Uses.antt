@@ -45,7 +45,7 @@ abbrev mutual
   built_uses (tail at message from) = message_uses message ++ uses from
   built_uses (join at first second) = message_uses first ++ message_uses second
 
--- The uses in an argument, and in arguments.
+-- The uses in an argument.
 abbrev pub argument_uses : ArgumentTree → List Use
 argument_uses (value e) = uses e
 argument_uses (content b) = built_uses b
@@ -55,6 +55,7 @@ abbrev pub arguments_in : Option ArgumentsTree → List ArgumentTree
 arguments_in None = []
 arguments_in (Some arguments) = arguments.first ∷ arguments.rest
 
+-- The uses in arguments, in their order; none where the arguments are missing.
 abbrev pub arguments_uses : Option ArgumentsTree → List Use
 arguments_uses arguments = flat_map argument_uses (arguments_in arguments)
 

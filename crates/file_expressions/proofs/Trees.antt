@@ -4,7 +4,7 @@ use Rattle.std.proofs.Common.{option_map, refl, sym, ap, ◌∙◌}
 use Rattle.layer_ast.specs.Tree.{ItemTree}
 use Rattle.layer_ast.specs.View.{item_tree}
 use Rattle.layer_ast.specs.declared.syntax.Item.{Item}
-use Rattle.layer_ast.specs.declared.syntax.Sort.{Sort}
+use Rattle.layer_words.specs.declared.sorts.Sort.{Sort}
 use Rattle.fault_mean.specs.Kinds.{a_message, allows}
 
 first_tree : (test : ItemTree → Bool) (items : List Item) →

@@ -1,6 +1,6 @@
 -- The first fault of types that is found as a file is judged, part by part.
 use Rattle.std.specs.Prelude.{List}
-use Rattle.layer_ast.specs.declared.names.At.{At}
+use Rattle.layer_words.specs.declared.places.At.{At}
 use Rattle.fault_mean.specs.Faults as fault
 use Rattle.fault_mean.specs.Faults.{TypeFault}
 use Rattle.file_scope.specs.declared.found.Fault.{Fault}

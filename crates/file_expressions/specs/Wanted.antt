@@ -1,6 +1,6 @@
 -- What may stand where something is wanted.
 use Rattle.std.specs.Prelude.{List, [], ◌∷◌}
-use Rattle.layer_ast.specs.declared.syntax.Sort.{Sort}
+use Rattle.layer_words.specs.declared.sorts.Sort.{Sort}
 use Rattle.fault_mean.specs.Kinds.{a_message}
 use Rattle.file_expressions.specs.declared.wanted.Wanted.{Wanted}
 use Rattle.file_expressions.specs.declared.wanted.Wanted.TheVariants.{One, Message}

@@ -3,7 +3,7 @@
 ghost use Rattle.std.specs.Prelude.{◌≡◌, ◌++◌};
 ghost use Rattle.layer_ast.specs.View.{argument_tree, built_tree, expression_tree};
 ghost use Rattle.layer_ast.specs.Tree as tree;
-ghost use Rattle.layer_ast.specs.declared.syntax.Sort.TheVariants.{Int};
+ghost use Rattle.layer_words.specs.declared.sorts.Sort.TheVariants.{Int};
 ghost use Rattle.fault_mean.specs.Earliest.{unless};
 ghost use Rattle.fault_mean.specs.ExpressionFaults as spec;
 ghost use Rattle.fault_mean.specs.Faults as fault;
@@ -19,7 +19,8 @@ use crate::places::{built_at, expression_at};
 use crate::sorts::{built_sort, name_sort};
 use crate::wanted::{Wanted, allows, may_be, must_be};
 use file_scope::{Found, Scope};
-use layer_ast::{Argument, Built, Expression, Sort};
+use layer_ast::{Argument, Built, Expression};
+use layer_words::Sort;
 
 /// An argument that is a number, but not the name of one.
 #[tactic(auto, using(file_scope::proofs::Finds::finds_both))]

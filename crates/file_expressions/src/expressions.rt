@@ -12,7 +12,8 @@ use crate::places::message_at;
 use crate::sorts::{message_sort, name_sort};
 use crate::wanted::{NUMBER, Wanted, may_be, must_be};
 use file_scope::{Found, Scope, declares_numbers, declares_queue, declares_queues};
-use layer_ast::{At, Built, Expression, MessageExpression, Name, Queue, Shape, Sort};
+use layer_ast::{Built, Expression, MessageExpression, Name, Queue};
+use layer_words::{At, Shape, Sort};
 
 /// Where a message of the layers above is wanted.
 const MSG: Wanted = Wanted::One(Sort::Msg);

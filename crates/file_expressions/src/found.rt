@@ -5,7 +5,7 @@ ghost use Rattle.fault_mean.specs.Earliest.{unless};
 ghost use Rattle.file_expressions.specs.Found.{Finds, fault_at, type_shown};
 
 use file_scope::{Fault, Found};
-use layer_ast::At;
+use layer_words::At;
 
 /// What is wrong with a type.
 #[derive(Clone, Copy, PartialEq, Eq, Debug)]

@@ -11,7 +11,8 @@ ghost use Rattle.file_scope.specs.Scope.{scope_of};
 
 use crate::wanted::{NUMBER, Wanted, allows, must_be};
 use file_scope::{Scope, is_same};
-use layer_ast::{Declaration, Item, Items, Name, Queue, Sort, Word};
+use layer_ast::{Declaration, Item, Items, Name, Queue};
+use layer_words::{Sort, Word};
 
 /// The sort of the first message of some items.
 fn message_among(items: &[Item]) -> Option<Sort>

@@ -4,7 +4,8 @@ ghost use Rattle.std.specs.Prelude.{◌≡◌};
 ghost use Rattle.layer_ast.specs.View.{built_tree, expression_tree, message_tree, size_tree};
 ghost use Rattle.fault_mean.specs.Sorts as spec;
 
-use layer_ast::{At, Built, Expression, MessageExpression, Size};
+use layer_ast::{Built, Expression, MessageExpression, Size};
+use layer_words::At;
 
 /// The place of an expression.
 pub fn expression_at(e: &Expression) -> At

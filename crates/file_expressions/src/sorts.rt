@@ -7,7 +7,8 @@ ghost use Rattle.file_scope.specs.Scope.{scope_of};
 
 use crate::items::held_sort;
 use file_scope::{Scope, declares_number, declares_param};
-use layer_ast::{Argument, Built, Expression, MessageExpression, Sort, Word};
+use layer_ast::{Argument, Built, Expression, MessageExpression};
+use layer_words::{Sort, Word};
 
 /// The sort of a visible name, where it stands for a number or a message.
 pub fn name_sort(scope: &Scope, word: &Word) -> Option<Sort>

@@ -5,7 +5,7 @@ ghost use Rattle.fault_mean.specs.ExpressionFaults as spec;
 ghost use Rattle.fault_mean.specs.Kinds as kinds;
 ghost use Rattle.file_expressions.specs.Wanted.{sorts_of};
 
-use layer_ast::Sort;
+use layer_words::Sort;
 
 /// What may stand where something is wanted.
 #[derive(Clone, Copy, PartialEq, Eq, Debug)]

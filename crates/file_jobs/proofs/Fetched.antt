@@ -3,7 +3,7 @@ use Rattle.std.proofs.Common.{ℕ, List, Option}
 use Rattle.std.specs.Prelude.{Result, Ok, Err}
 use Rattle.clap.specs.Walk.{Text}
 use Rattle.outside.specs.Shelf.{Shelved}
-use Rattle.event_graph.specs.declared.stack.Stack.{Stack}
+use Rattle.stack_judge.specs.declared.stack.Stack.{Stack}
 use Rattle.end_mean.specs.Status.{Ended, file_refused, no_memory}
 use Rattle.job_ends.specs.Shown.{shown_end}
 use Rattle.job_ends.specs.declared.ending.Ending.{Ending}

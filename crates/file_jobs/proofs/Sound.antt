@@ -7,8 +7,8 @@ use Rattle.fault_mean.specs.Faults as faults
 use Rattle.fault_mean.specs.FileFault.{file_fault}
 use Rattle.file_mean.specs.Stack.{stack_of}
 use Rattle.stack_mean.specs.Acceptance.{Refusal, acceptance}
-use Rattle.event_graph.proofs.Judged.{accepted_is}
-use Rattle.file_laws.specs.Named.{NamedStack}
+use Rattle.stack_judge.proofs.Judged.{accepted_is}
+use Rattle.chain_laws.specs.Named.{NamedStack}
 use Rattle.file_laws.proofs.Texts.{texts_are_named, texts_are_typed}
 use Rattle.bypass_laws.specs.Making.{IsSound}
 use Rattle.output_mean.specs.Judged.{Means, judged_by, said_accepted}

@@ -15,7 +15,7 @@ use Rattle.end_mean.specs.Status.{Ended, file_refused, report_refused, read_fail
 use Rattle.program_mean.specs.Headline.{ReadsStack}
 use Rattle.job_ends.specs.Comes.{Around, file_name, Comes}
 use Rattle.job_ends.proofs.Comes.{longer}
-use Rattle.file_jobs.specs.declared.report.TheConstants.{LONGEST_REPORT}
+use Rattle.audit_judge.specs.declared.judge.TheConstants.{LONGEST_REPORT}
 use Rattle.file_jobs.specs.Stack.{StopsAt, IsRefused}
 use Rattle.file_jobs.specs.Report as report
 

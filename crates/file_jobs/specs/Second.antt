@@ -11,11 +11,11 @@ use Rattle.end_mean.specs.Status.{Ended, second_refused, read_failed, no_memory,
 use Rattle.file_jobs.specs.Stack.{IsMissed, IsText}
 use Rattle.job_ends.specs.Shown.{shown_end}
 use Rattle.job_ends.specs.declared.ending.Ending.{Ending}
-use Rattle.file_jobs.specs.declared.second.TheConstants.{LONGEST_SECOND}
+use Rattle.script_text.specs.declared.reading.TheConstants.{LONGEST_SCRIPT}
 
 -- The most bytes of a second file.
 abbrev pub longest_second : ℕ
-longest_second = LONGEST_SECOND
+longest_second = LONGEST_SCRIPT
 
 -- The next read of this name found a text of too many bytes.
 pub record IsLarge (name : Text) (told : Option Shelved) (reads reads_after : ℕ) : Type 0 where

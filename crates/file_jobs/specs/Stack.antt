@@ -9,8 +9,8 @@ use Rattle.layer_ast.specs.View.{file_tree}
 use Rattle.layer_mean.specs.Tree.{LayerTree}
 use Rattle.end_mean.specs.Status.{FileFault, Ended, file_refused, read_failed, no_memory}
 use Rattle.output_mean.specs.Judged.{Means, Refuses}
-use Rattle.event_graph.specs.Answer.{stack_tree}
-use Rattle.event_graph.specs.declared.stack.Stack.{Stack}
+use Rattle.stack_judge.specs.Answer.{stack_tree}
+use Rattle.stack_judge.specs.declared.stack.Stack.{Stack}
 use Rattle.file_jobs.specs.declared.stack.StackFile.{StackFile}
 use Rattle.job_ends.specs.Shown.{shown_end}
 use Rattle.job_ends.specs.declared.ending.Ending.{Ending}
@@ -56,11 +56,12 @@ abbrev pub Fetches : Text → Option Shelved → (reads reads_after : ℕ) → R
 Fetches name told reads reads_after (Ok stack) = IsStack name told reads reads_after (stack_tree stack)
 Fetches name told reads reads_after (Err ending) = StopsAt name told reads reads_after (shown_end ending)
 
--- The same with the tree of the file.
+-- The stack is that of the file that was read, and the tree is that of this file.
 pub record IsStackFile (name : Text) (told : Option Shelved) (reads reads_after : ℕ) (f : StackFile) : Type 0 where
   pub is : IsStack name told reads reads_after (stack_tree f.stack)
   pub tree : is.means.file ≡ file_tree f.file
 
+-- The stack of the file that was read with the tree of the file, or how the job ends.
 abbrev pub FetchesFile : Text → Option Shelved → (reads reads_after : ℕ) → Result StackFile Ending → Type 0
 FetchesFile name told reads reads_after (Ok f) = IsStackFile name told reads reads_after f
 FetchesFile name told reads reads_after (Err ending) = StopsAt name told reads reads_after (shown_end ending)
@@ -75,11 +76,12 @@ abbrev pub JudgesStack : List ℕ → Result Stack Ending → Type 0
 JudgesStack text (Ok stack) = Means text (stack_tree stack)
 JudgesStack text (Err ending) = Refused text (shown_end ending)
 
--- The same with the tree of the file that they spell.
+-- The bytes of a file mean the stack, and the tree is that of the file that they spell.
 pub record IsFileOf (text : List ℕ) (f : StackFile) : Type 0 where
   pub means : Means text (stack_tree f.stack)
   pub tree : means.file ≡ file_tree f.file
 
+-- The stack that the bytes of a file mean with the tree of the file, or why they are refused.
 abbrev pub JudgesFile : List ℕ → Result StackFile Ending → Type 0
 JudgesFile text (Ok f) = IsFileOf text f
 JudgesFile text (Err ending) = Refused text (shown_end ending)

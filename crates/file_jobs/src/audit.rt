@@ -6,9 +6,9 @@ ghost use Rattle.job_ends.specs.Shown.{shown_end};
 
 use crate::judged::write;
 use crate::report::fetch_report;
+use audit_judge::Law;
 use job_ends::Ending;
 use outside::{Shelf, Sink};
-use run_audit::Law;
 use std::alloc::Global;
 
 /// Judges a law of the group on a report, and writes the verdict.

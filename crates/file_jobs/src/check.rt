@@ -2,7 +2,7 @@
 #![tactic(auto, using(outside::proofs::Gaining::begins_none))]
 
 ghost use Rattle.std.specs.Prelude.{◌≡◌, [], ◌∷◌, codes, ◌++◌, length};
-ghost use Rattle.event_graph.specs.Answer.{stack_tree};
+ghost use Rattle.stack_judge.specs.Answer.{stack_tree};
 ghost use Rattle.std.specs.Fmt.{decimal};
 ghost use Rattle.job_mean.specs.Job as job;
 ghost use Rattle.end_mean.specs.Status.{done};
@@ -13,9 +13,9 @@ ghost use Rattle.job_ends.specs.Shown.{shown_end};
 use crate::judged::{Output, write};
 use crate::lines::accepted_line;
 use crate::stack::fetch_stack;
-use event_graph::Stack;
 use job_ends::Ending;
 use outside::{Shelf, Sink};
+use stack_judge::Stack;
 use std::alloc::{AllocError, Global};
 use std::mem::forget;
 

@@ -5,7 +5,7 @@ ghost use Rattle.std.specs.String.{string_bytes};
 ghost use Rattle.std.specs.Fmt.{decimal};
 ghost use Rattle.output_mean.specs.Output.{finding_line};
 
-use run_audit::Finding;
+use audit_judge::Finding;
 use std::alloc::{AllocError, Global};
 
 /// The output of a check.

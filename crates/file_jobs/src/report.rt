@@ -7,13 +7,10 @@ ghost use Rattle.file_jobs.specs.Report.{Fetches, Judges};
 
 use crate::judged::Output;
 use crate::lines::finding_line;
+use audit_judge::{AuditError, Finding, LONGEST_REPORT, Law, audit};
 use job_ends::Ending;
 use outside::{Got, Shelf};
-use run_audit::{AuditError, Finding, Law, audit};
 use std::alloc::Global;
-
-/// The most bytes of a report.
-const LONGEST_REPORT: u64 = 67_108_864;
 
 /// Reads a report and judges a law on it: the output of that, or how the job ends.
 pub(crate) fn fetch_report<S: Shelf>(
@@ -25,7 +22,7 @@ pub(crate) fn fetch_report<S: Shelf>(
     ensures { Fetches file.now law (S.told shelf.old) (S.faults shelf.old) (S.faults shelf.new) result }
 {
     let mut text = Vec::new(alloc);
-    match shelf.read(file, &mut text, LONGEST_REPORT)? {
+    match shelf.read(file, &mut text, LONGEST_REPORT as u64)? {
         Got::Whole => judged(alloc, &text, law),
         Got::TooLong => Err(Ending::ReportTooLarge),
     }

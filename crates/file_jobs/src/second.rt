@@ -8,11 +8,8 @@ ghost use Rattle.file_jobs.specs.Second.{Reads, refused_as};
 
 use job_ends::Ending;
 use outside::{Got, Shelf};
-use script_text::ScriptError;
+use script_text::{LONGEST_SCRIPT, ScriptError};
 use std::alloc::Global;
-
-/// The most bytes of a script or a plan.
-const LONGEST_SECOND: u64 = 4_194_304;
 
 /// Reads the second file of a job, or finds how the job ends.
 pub fn fetch_second<S: Shelf>(alloc: Global, name: &str, shelf: &mut S) -> Result<Vec<u8>, Ending>
@@ -20,7 +17,7 @@ pub fn fetch_second<S: Shelf>(alloc: Global, name: &str, shelf: &mut S) -> Resul
     ensures kept { S.told shelf.new ≡ option_map after_read (S.told shelf.old) }
 {
     let mut text = Vec::new(alloc);
-    match shelf.read(name, &mut text, LONGEST_SECOND)? {
+    match shelf.read(name, &mut text, LONGEST_SCRIPT as u64)? {
         Got::Whole => Ok(text),
         Got::TooLong => Err(Ending::SecondTooLong),
     }

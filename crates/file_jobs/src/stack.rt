@@ -5,11 +5,11 @@ ghost use Rattle.std.specs.Option.{option_map};
 ghost use Rattle.outside.specs.Shelf.{after_read};
 ghost use Rattle.file_jobs.specs.Stack.{Fetches, FetchesFile, JudgesFile, JudgesStack, ReadsText};
 
-use event_graph::Stack;
 use file_judge::{FileError, judge, read_file};
 use job_ends::Ending;
 use layer_ast::{File, LONGEST_FILE};
 use outside::{Got, Shelf};
+use stack_judge::Stack;
 use std::alloc::Global;
 use std::mem::forget;
 
@@ -41,7 +41,7 @@ pub fn fetch_stack<S: Shelf>(alloc: Global, file: &str, shelf: &mut S) -> Result
     judged(alloc, &text)
 }
 
-/// The same, with the file's tree.
+/// Reads a stack file and judges it: its accepted stack with the file's tree, or how the job ends.
 pub fn fetch_file<S: Shelf>(alloc: Global, file: &str, shelf: &mut S) -> Result<StackFile, Ending>
     ensures read { FetchesFile file.now (S.told shelf.old) (S.faults shelf.old) (S.faults shelf.new) result }
     ensures kept { S.told shelf.new ≡ option_map after_read (S.told shelf.old) }
@@ -58,8 +58,9 @@ fn judged(alloc: Global, text: &[u8]) -> Result<Stack, Ending>
     Ok(stack)
 }
 
-/// The same, with the tree of the file that the text spells: judging takes its own tree apart, so the text is read once
-/// more. The memory of a stack that is no longer needed goes back with that of the program.
+/// The accepted stack of a text with the tree of the file that it spells, or why it is refused. Judging takes its own
+/// tree apart, so the text is read once more. The memory of a stack that is no longer needed goes back with that of the
+/// program.
 fn judged_file(alloc: Global, text: &[u8]) -> Result<StackFile, Ending>
     ensures { JudgesFile text.now result }
 {

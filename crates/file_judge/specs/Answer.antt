@@ -10,8 +10,8 @@ use Rattle.file_mean.specs.Library.{IsFile}
 use Rattle.file_mean.specs.Stack.{stack_of}
 use Rattle.end_mean.specs.Status as cause
 use Rattle.output_mean.specs.Judged.{Means, Refuses}
-use Rattle.event_graph.specs.Answer.{stack_tree}
-use Rattle.event_graph.specs.declared.stack.Stack.{Stack}
+use Rattle.stack_judge.specs.Answer.{stack_tree}
+use Rattle.stack_judge.specs.declared.stack.Stack.{Stack}
 use Rattle.file_judge.specs.declared.error.FileError.{FileError}
 use Rattle.file_judge.specs.declared.error.FileError.TheVariants.{TooLarge, BadToken, Unexpected, Unknown, Twice}
 use Rattle.file_judge.specs.declared.error.FileError.TheVariants.{OverLimit, Kind, Arity, Direction, Header, Initial}

@@ -1,6 +1,6 @@
 -- The refusals of each stage, as refusals of a file.
-use Rattle.event_graph.specs.declared.error.StackError.{StackError}
-use Rattle.event_graph.specs.declared.error.StackError.TheVariants as stack
+use Rattle.stack_judge.specs.declared.error.StackError.{StackError}
+use Rattle.stack_judge.specs.declared.error.StackError.TheVariants as stack
 use Rattle.file_names.specs.declared.error.NameError.{NameError}
 use Rattle.file_names.specs.declared.error.NameError.TheVariants as names
 use Rattle.file_parse.specs.declared.error.ParseError.{ParseError}

@@ -3,11 +3,11 @@
 ghost use Rattle.std.specs.Prelude.{◌≡◌};
 ghost use Rattle.file_judge.specs.Refusals.{names_refused, stack_refused, text_refused, types_refused};
 
-use event_graph::StackError;
 use file_names::NameError;
 use file_parse::ParseError;
 use file_types::TypeError;
-use layer_ast::{At, Kind};
+use layer_words::{At, Kind};
+use stack_judge::StackError;
 use thiserror::Error;
 
 /// Why a file is refused: the first cause, in the order in which they stand here; of causes at places in the text, the

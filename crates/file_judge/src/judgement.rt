@@ -9,11 +9,11 @@ ghost use Rattle.file_names.specs.Answer.{resolved_tree};
 ghost use Rattle.file_judge.specs.Answer.{Judges, IsStackOf, Reads};
 
 use crate::error::FileError;
-use event_graph::{Stack, accept};
 use file_names::{Resolved, resolve};
 use file_parse::parse;
 use file_types::check;
 use layer_ast::File;
+use stack_judge::{Stack, accept};
 use std::alloc::Global;
 use typed_layer::Typed;
 

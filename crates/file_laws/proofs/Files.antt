@@ -6,7 +6,7 @@ use Rattle.std.specs.List.{AllByRecursion, cons_option, enumerate_from, filter_m
 use Rattle.std.specs.Option.{option_or, option_map_or}
 use Rattle.std.proofs.lemmas.List.{length-map}
 use Rattle.std.proofs.lemmas.List.FromFn.{length-enumerate_from}
-use Rattle.layer_ast.specs.declared.names.At.{At}
+use Rattle.layer_words.specs.declared.places.At.{At}
 use Rattle.layer_ast.specs.Tree as ast
 use Rattle.layer_mean.specs.Tree.{LayerTree}
 use Rattle.layer_mean.specs.Visit.{none_header}
@@ -31,7 +31,8 @@ use Rattle.fault_mean.specs.Limits.{LimitedSize, is_within, is_within_at, sizes_
 use Rattle.fault_mean.specs.Earliest.{unless}
 use Rattle.fault_mean.specs.Declared.{is_param}
 use Rattle.fault_mean.specs.Forms.{declared_as}
-use Rattle.file_laws.specs.Named.{NamedStack, FilesAreNamed}
+use Rattle.chain_laws.specs.Named.{NamedStack}
+use Rattle.file_laws.specs.Named.{FilesAreNamed}
 use Rattle.file_laws.proofs.Handlers.{layer_typed}
 use Rattle.file_laws.proofs.NamedLayers.{layer_named, given_within}
 

@@ -6,9 +6,9 @@ use Rattle.std.specs.List.{AllByRecursion, last_or}
 use Rattle.std.specs.Map.{lookup}
 use Rattle.std.proofs.lemmas.Slice.Eq.{bytes_eq-Decides}
 use Rattle.layer_ast.specs.declared.names.Name.{Name}
-use Rattle.layer_ast.specs.declared.names.Word.{Word}
-use Rattle.layer_ast.specs.declared.syntax.Sort.{Sort}
-use Rattle.layer_ast.specs.declared.syntax.Sort.TheVariants.{Int, Msg, Part}
+use Rattle.layer_words.specs.declared.words.Word.{Word}
+use Rattle.layer_words.specs.declared.sorts.Sort.{Sort}
+use Rattle.layer_words.specs.declared.sorts.Sort.TheVariants.{Int, Msg, Part}
 use Rattle.fault_mean.specs.Scope.{Local, locals_as}
 use Rattle.file_mean.specs.Names.{Names, in_slots, numbers_among, with_numbers}
 use Rattle.chain_laws.proofs.Lists.{each_append, each_so}

@@ -7,12 +7,12 @@ use Rattle.std.specs.Option.{option_map_or}
 use Rattle.std.proofs.lemmas.Bool.{eqb-true}
 use Rattle.std.proofs.lemmas.List.{length-map}
 use Rattle.msg_core.specs.declared.message.Header.{Header}
-use Rattle.layer_ast.specs.declared.names.At.{At}
-use Rattle.layer_ast.specs.declared.syntax.Sort.{Sort}
-use Rattle.layer_ast.specs.declared.syntax.Sort.TheVariants.{Int, Msg, Part}
-use Rattle.layer_ast.specs.declared.tokens.Dir.{Dir}
-use Rattle.layer_ast.specs.declared.tokens.Kind.{Kind}
-use Rattle.layer_ast.specs.declared.tokens.Kind.TheVariants as kinds
+use Rattle.layer_words.specs.declared.places.At.{At}
+use Rattle.layer_words.specs.declared.sorts.Sort.{Sort}
+use Rattle.layer_words.specs.declared.sorts.Sort.TheVariants.{Int, Msg, Part}
+use Rattle.layer_words.specs.declared.events.Dir.{Dir}
+use Rattle.layer_words.specs.declared.events.Kind.{Kind}
+use Rattle.layer_words.specs.declared.events.Kind.TheVariants as kinds
 use Rattle.layer_ast.specs.Tree as ast
 use Rattle.layer_mean.specs.Event.{carries}
 use Rattle.fault_mean.specs.Earliest.{unless}
@@ -28,7 +28,7 @@ use Rattle.file_mean.specs.Names.{Names, Placed, carried_as, carried_in, numbers
 use Rattle.file_mean.specs.Values.{queue_row, queue_carries, argument_number, argument_message}
 use Rattle.file_mean.specs.Statements.{pushed_tag, pushed_fields, emission_of, pushed_row}
 use Rattle.file_mean.specs.Layers.{layer_of}
-use Rattle.file_laws.specs.Named.{Named, NamedMessage, NamedOption, NamedContent}
+use Rattle.chain_laws.specs.Named.{Named, NamedMessage, NamedOption, NamedContent}
 use Rattle.file_laws.proofs.Lists.{nils, each_nil, unless_nil, zip_each, last_map}
 use Rattle.file_laws.proofs.Messages.{IsLastMessage, inner_number}
 use Rattle.file_laws.proofs.Emissions.{kind_arguments, unmapped}

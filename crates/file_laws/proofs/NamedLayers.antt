@@ -7,12 +7,12 @@ use Rattle.std.specs.Option.{option_map_or}
 use Rattle.std.proofs.lemmas.Bool.{and_parts, eqb-true, leb-true}
 use Rattle.std.proofs.lemmas.List.{length-map, length-append}
 use Rattle.layer_ast.specs.declared.names.Name.{Name}
-use Rattle.layer_ast.specs.declared.names.Word.{Word}
-use Rattle.layer_ast.specs.declared.syntax.Shape.TheVariants.{One, Array, Square}
-use Rattle.layer_ast.specs.declared.syntax.Sort.{Sort}
-use Rattle.layer_ast.specs.declared.syntax.Sort.TheVariants.{Int, Msg, Part}
-use Rattle.layer_ast.specs.declared.tokens.Kind.{Kind}
-use Rattle.layer_ast.specs.declared.tokens.Kind.TheVariants as kinds
+use Rattle.layer_words.specs.declared.words.Word.{Word}
+use Rattle.layer_words.specs.declared.sorts.Shape.TheVariants.{One, Array, Square}
+use Rattle.layer_words.specs.declared.sorts.Sort.{Sort}
+use Rattle.layer_words.specs.declared.sorts.Sort.TheVariants.{Int, Msg, Part}
+use Rattle.layer_words.specs.declared.events.Kind.{Kind}
+use Rattle.layer_words.specs.declared.events.Kind.TheVariants as kinds
 use Rattle.layer_ast.specs.Tree as ast
 use Rattle.layer_mean.specs.Event.{carries}
 use Rattle.layer_mean.specs.Headers.{header_of_tag}
@@ -37,11 +37,11 @@ use Rattle.file_mean.specs.Names.{Names, Placed, own_names, in_slots, numbers_am
 use Rattle.file_mean.specs.Values.{queue_row, queue_carries, number_of}
 use Rattle.file_mean.specs.Statements.{with_taken, after_block, after_all, statements_of}
 use Rattle.file_mean.specs.Layers.{popped_tag, expected_of, handler_names, handler_of, cell_in, layer_of}
-use Rattle.layer_ast.specs.declared.names.At.{At}
+use Rattle.layer_words.specs.declared.places.At.{At}
 use Rattle.fault_mean.specs.Limits.{LimitedSize, capacity_in, is_within, maximum_in, number_outside, sizes_in}
 use Rattle.fault_mean.specs.Places.{param_value}
-use Rattle.file_laws.specs.Named.{Named, NamedAll, NamedExpected, event_number_count, slots_of, NamedHandler, NamedForm}
-use Rattle.file_laws.specs.Named.{NamedLayer, IsSize}
+use Rattle.chain_laws.specs.Named.{Named, NamedAll, NamedExpected, event_number_count, slots_of, NamedHandler}
+use Rattle.chain_laws.specs.Named.{NamedForm, NamedLayer, IsSize}
 use Rattle.file_laws.proofs.Lists.{nils, each_nil, each_parts, unless_nil, filter_map_each, each_both, map_nil}
 use Rattle.file_laws.proofs.Own.{declares_it, headed}
 use Rattle.file_laws.proofs.Messages.{LastMessages}

@@ -9,14 +9,14 @@ use Rattle.std.proofs.lemmas.Bool.{lt-ltb}
 use Rattle.std.proofs.lemmas.Slice.Eq.{bytes_eq-Decides}
 use denote.Enum.Bare.{same_true}
 use Rattle.msg_core.specs.declared.message.Header.{Header}
-use Rattle.layer_ast.specs.contracts.syntax.Shape as shape_row
-use Rattle.layer_ast.specs.declared.names.At.{At}
+use Rattle.layer_words.specs.contracts.sorts.Shape as shape_row
+use Rattle.layer_words.specs.declared.places.At.{At}
 use Rattle.layer_ast.specs.declared.names.Name.{Name}
-use Rattle.layer_ast.specs.declared.names.Word.{Word}
-use Rattle.layer_ast.specs.declared.syntax.Shape.{Shape}
-use Rattle.layer_ast.specs.declared.syntax.Shape.TheVariants.{One, Array, Square}
-use Rattle.layer_ast.specs.declared.syntax.Sort.{Sort}
-use Rattle.layer_ast.specs.declared.syntax.Sort.TheVariants.{Int, Msg, Part}
+use Rattle.layer_words.specs.declared.words.Word.{Word}
+use Rattle.layer_words.specs.declared.sorts.Shape.{Shape}
+use Rattle.layer_words.specs.declared.sorts.Shape.TheVariants.{One, Array, Square}
+use Rattle.layer_words.specs.declared.sorts.Sort.{Sort}
+use Rattle.layer_words.specs.declared.sorts.Sort.TheVariants.{Int, Msg, Part}
 use Rattle.layer_ast.specs.Tree as ast
 use Rattle.layer_mean.specs.Tree.{number, local, element, Form, CellTree}
 use Rattle.fault_mean.specs.Declared.{declaration_of, is_cell, is_param}
@@ -34,7 +34,7 @@ use Rattle.file_mean.specs.Names.{Names, Placed, cell_of, carried_as, carried_in
 use Rattle.file_mean.specs.Values.{named_number, queue_row, queue_cell, number_of, queue_index, message_of, built_of}
 use Rattle.file_mean.specs.Values.{argument_number, argument_message}
 use Rattle.file_mean.specs.Layers.{row_items, cell_in, layer_of}
-use Rattle.file_laws.specs.Named.{shape_in, alone_in, among_in, form_at, NamesNumber, NamesRows, Named, NamedMessage}
+use Rattle.chain_laws.specs.Named.{shape_in, alone_in, among_in, form_at, NamesNumber, NamesRows, Named, NamedMessage}
 use Rattle.file_laws.proofs.Lists.{nils, unless_nil, find_where}
 use Rattle.file_laws.proofs.Own.{Declares, declares_it, cell_listed}
 use Rattle.file_laws.proofs.Messages.{found_passes}

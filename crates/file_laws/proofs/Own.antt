@@ -4,7 +4,7 @@ use Rattle.std.specs.Prelude.{is_some, slice_get}
 use Rattle.std.specs.List.{filter_map, position_or_len}
 use Rattle.std.specs.Option.{option_map_or}
 use Rattle.layer_ast.specs.declared.names.Name.{Name}
-use Rattle.layer_ast.specs.declared.names.Word.{Word}
+use Rattle.layer_words.specs.declared.words.Word.{Word}
 use Rattle.layer_ast.specs.Tree as ast
 use Rattle.layer_mean.specs.Headers.{header_of_tag}
 use Rattle.layer_mean.specs.Tree.{CellTree, HeaderTree}

@@ -3,7 +3,7 @@ use Rattle.std.proofs.Common.{ℕ, Bool, true, false, List, map, Option, Some, N
 use Rattle.std.specs.Prelude.{bytes_eq, take, length, ◌-◌, unwrap_or, option_map, option_and_then}
 use Rattle.std.specs.List.{AllByRecursion, find}
 use Rattle.std.specs.Option.{option_or}
-use Rattle.layer_ast.specs.declared.names.Word.{Word}
+use Rattle.layer_words.specs.declared.words.Word.{Word}
 use Rattle.layer_ast.specs.Tree as ast
 use Rattle.layer_mean.specs.Tree.{local, number, element}
 use Rattle.packet_mean.specs.ChainedState.{IsNumber}

@@ -2,7 +2,7 @@
 use Rattle.std.proofs.Common.{◌≡◌, ℕ, zero, suc, ◌<◌, [], ◌∷◌, map, Some, refl, subst, arith}
 use Rattle.std.specs.Prelude.{codes, slice_index_or}
 use Rattle.msg_core.specs.Chain.{plain}
-use Rattle.layer_ast.specs.declared.tokens.Kind.TheVariants.{Cast}
+use Rattle.layer_words.specs.declared.events.Kind.TheVariants.{Cast}
 use Rattle.layer_ast.specs.Reader.{file_of}
 use Rattle.layer_mean.specs.Visit.{fresh, no_state}
 use Rattle.file_mean.specs.CounterFile as counter
@@ -15,7 +15,7 @@ use Rattle.chain_laws.proofs.Runs.{run_from_a_task, stands_typed}
 use Rattle.chain_laws.proofs.Statements.{event_is}
 use Rattle.chain_laws.proofs.Visits.{fresh_is_chained}
 use Rattle.file_laws.specs.Literals.{LiteralFile}
-use Rattle.file_laws.specs.Named.{NamedStack}
+use Rattle.chain_laws.specs.Named.{NamedStack}
 use Rattle.file_laws.specs.Samples.{CounterIsTyped, QueuesAreTyped, SmallFilesAreNamed, first_cast, CounterRuns}
 use Rattle.file_laws.proofs.Files.{files_are_named, files_are_typed}
 

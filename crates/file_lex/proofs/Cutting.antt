@@ -2,18 +2,19 @@
 use Rattle.std.proofs.Common.{eqb-true, true≢false, ◌≡◌, ℕ, nat_eq, cond, true, false, zero, suc, ◌+◌, ◌≤◌, Bool, List}
 use Rattle.std.proofs.Common.{[], ◌∷◌, ◌++◌, length, take, drop, Option, Some, None, refl, sym, ap, ◌∙◌, subst, arith}
 use Rattle.std.proofs.Common.{append_assoc, length-append, length-drop, length-take-le}
-use Rattle.layer_ast.specs.declared.names.At.{At}
+use Rattle.layer_words.specs.declared.places.At.{At}
 use Rattle.layer_ast.specs.declared.tokens.Lexed.{Lexed}
 use Rattle.std.specs.Prelude.{not, if◌then◌else◌}
 use Rattle.std.specs.Char.{is_ascii_alphabetic, is_ascii_digit}
 use Rattle.std.specs.List.{prefix_len}
 use Rattle.std.specs.Option.{option_map_or}
-use Rattle.layer_ast.specs.declared.tokens.Kind.{Kind}
-use Rattle.layer_ast.specs.declared.tokens.Sign.{Sign}
+use Rattle.layer_words.specs.declared.events.Kind.{Kind}
+use Rattle.layer_words.specs.declared.signs.Sign.{Sign}
 use Rattle.layer_ast.specs.declared.tokens.Token.TheVariants as token
 use Rattle.layer_ast.specs.Cut.{is_numeral, Piece, gap, one, bad, Tokens, piece, word_piece, number_piece, symbol_piece}
 use Rattle.layer_ast.specs.Cut.{with_piece, cut_from, place_after}
-use Rattle.layer_ast.specs.Spelling.{is_blank, word_token, beside, reserved, kinds}
+use Rattle.layer_words.specs.Spelling.{is_blank, beside, reserved, kinds}
+use Rattle.layer_ast.specs.Cut.{word_token}
 use Rattle.file_lex.specs.Pieces.{GoesOn, with_front, more_of, is_number, is_flat, past}
 use Rattle.file_lex.proofs.Flat.{past_flat}
 

@@ -5,7 +5,7 @@ use Rattle.std.specs.List.{list_any, list_all}
 use Rattle.std.specs.Borrow.{Bor}
 use Rattle.std.specs.Option.{option_map, option_and_then}
 use Rattle.std.specs.Str.{bytes_eq}
-use Rattle.layer_ast.specs.Spelling.{beside}
+use Rattle.layer_words.specs.Spelling.{beside}
 use Rattle.file_lex.specs.Tables.{shown_table, shown_groups, beside_in_group}
 
 -- whether a spelling begins with a byte

@@ -1,14 +1,14 @@
 -- A number that grows too large while its digits are read is too large.
 use Rattle.std.proofs.Common.{◌≡◌, ℕ, zero, suc, ◌+◌, ◌-◌, ◌*◌, ◌<◌, ◌≤◌, List, [], ◌∷◌, length, take, get_or, fold}
 use Rattle.std.proofs.Common.{arith, subst}
-use Rattle.layer_ast.specs.Spelling.{number_of}
+use Rattle.layer_ast.specs.Cut.{number_of}
 
 -- further digits don't make a number smaller
 grows : (a : ℕ) (digits : List ℕ) → a ≤ fold (λ n digit. 10 * n + (digit - 48)) a digits
 grows a [] = omega arith
 grows a (d ∷ digits) = omega (arith, grows (10 * a + (d - 48)) digits)
 
--- the same from any number on
+-- a number that grows too large at one of its digits is too large in the end, from any number on
 exceeds_from : (a : ℕ) (digits : List ℕ) (i d : ℕ) → i < length digits → get_or digits i 0 ≡ d →
     4294967295 < 10 * fold (λ n digit. 10 * n + (digit - 48)) a (take i digits) + (d - 48) →
     4294967295 < fold (λ n digit. 10 * n + (digit - 48)) a digits

@@ -6,7 +6,7 @@ use Rattle.std.proofs.lemmas.List.{append_cancel_left, nil_from_length, take-app
 use Rattle.std.proofs.lemmas.List.Folds.{list_all-append}
 use Rattle.std.proofs.Math.Seq.{take-append_seam, drop-append_seam}
 use Rattle.std.specs.List.{list_all, prefix_len}
-use Rattle.layer_ast.specs.declared.names.At.{At}
+use Rattle.layer_words.specs.declared.places.At.{At}
 use Rattle.layer_ast.specs.declared.tokens.Lexed.{Lexed}
 use Rattle.layer_ast.specs.Cut.{Piece, gap, one, bad, Tokens, piece, with_piece, cut_from, place_after}
 use Rattle.file_lex.specs.declared.Left.{Left}

@@ -2,7 +2,7 @@
 use Rattle.std.proofs.Common.{◌≡◌, ℕ, true, false, cond, List, [], ◌∷◌, find, Some, Bor, refl}
 use Rattle.std.specs.Option.{option_map}
 use Rattle.std.specs.Str.{bytes_eq}
-use Rattle.layer_ast.specs.Spelling.{beside}
+use Rattle.layer_words.specs.Spelling.{beside}
 use Rattle.file_lex.specs.Tables.{shown_table}
 
 -- what a search in a table finds is what stands beside the word in the shown table

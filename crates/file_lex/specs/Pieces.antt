@@ -2,10 +2,10 @@
 use Rattle.std.specs.Prelude.{◌≡◌, ◌<◌, ◌≤◌, ◌+◌, ℕ, suc, length, take, Bool, true, false, not, nat_eq, List, [], ◌∷◌}
 use Rattle.std.specs.Prelude.{◌++◌, fold, Option, Some, None}
 use Rattle.std.specs.List.{list_all}
-use Rattle.layer_ast.specs.declared.names.At.{At}
+use Rattle.layer_words.specs.declared.places.At.{At}
 use Rattle.layer_ast.specs.declared.tokens.Lexed.{Lexed}
 use Rattle.layer_ast.specs.declared.tokens.Token.TheVariants as token
-use Rattle.layer_ast.specs.Spelling.{word_token}
+use Rattle.layer_ast.specs.Cut.{word_token}
 use Rattle.layer_ast.specs.Cut.{Piece as Found, gap, one, bad, Tokens as Parts, is_numeral, cut_from, place_after}
 use Rattle.file_lex.specs.Parts.{begins_part, CutsPart}
 use Rattle.file_lex.specs.declared.Left.{Left}
@@ -15,7 +15,7 @@ use Rattle.file_lex.specs.declared.Stop.TheVariants as stop
 use Rattle.file_lex.specs.declared.Tokens.{Tokens}
 use Rattle.file_lex.specs.declared.pieces.Piece.{Piece}
 use Rattle.file_lex.specs.declared.pieces.Piece.TheVariants.{Gap, Word, Number, Symbol, Bad}
-use Rattle.layer_ast.specs.WordBytes.{longest_word}
+use Rattle.layer_words.specs.WordBytes.{longest_word}
 
 -- the piece that the lexer found at the front of a text
 abbrev pub found : List ℕ → Piece → Found

@@ -2,7 +2,7 @@
 use Rattle.std.specs.Prelude.{ℕ, suc, Bool, true, ◌&&◌, nat_eq, List, [], ◌∷◌, map, find, Option, None}
 use Rattle.std.specs.Borrow.{Bor}
 use Rattle.std.specs.Option.{option_and_then}
-use Rattle.layer_ast.specs.Spelling.{beside}
+use Rattle.layer_words.specs.Spelling.{beside}
 
 -- a table with its spellings as they are, and not as references to them
 abbrev pub shown_table : {X : Type 0} → List (Bor (List ℕ) × X) → List (List ℕ × X)

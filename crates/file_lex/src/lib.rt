@@ -12,7 +12,8 @@ ghost use Rattle.file_lex.specs.Pieces.{GoesOn, IsFront, HasRoom, IsAfter, Stops
 mod pieces;
 mod words;
 
-use layer_ast::{At, Lexed, Token};
+use layer_ast::{Lexed, Token};
+use layer_words::At;
 use pieces::{Piece, front, is_blank, piece_at};
 use std::alloc::{AllocError, Global};
 use words::{is_part_word, push_word};
@@ -121,7 +122,7 @@ fn cut_on<'a>(tokens: &mut Vec<Lexed>, left: Left<'a>, to_end: bool) -> Result<S
                 after_number,
             }));
         }
-        after_number = is_number(&piece);
+        after_number = law_number(&piece);
         let Some(more) = take_piece(tokens, piece, at, rest)? else {
             return Ok(Stop::Bad(at));
         };
@@ -186,7 +187,7 @@ fn take_piece(
 
 /// Whether a piece is a number.
 #[tactic(auto, using(crate::proofs::Cutting::no_numeral))]
-fn is_number(piece: &Piece) -> bool
+fn law_number(piece: &Piece) -> bool
     ensures { (text : List ℕ) → result ≡ is_number_piece (found text piece.now) }
 {
     match piece {

@@ -4,10 +4,11 @@ ghost use Rattle.std.specs.Prelude.{nat_eq};
 ghost use Rattle.std.specs.Char.{is_ascii_digit};
 ghost use Rattle.std.specs.List.{prefix_len};
 ghost use Rattle.layer_ast.specs.Cut.{piece as piece_of, word_piece, number_piece, symbol_piece};
-ghost use Rattle.layer_ast.specs.Spelling.{number_of, is_blank as is_gap, is_word_byte as goes_on_word};
+ghost use Rattle.layer_ast.specs.Cut.{number_of};
+ghost use Rattle.layer_words.specs.Spelling.{is_blank as is_gap, is_word_byte as goes_on_word};
 ghost use Rattle.file_lex.specs.Pieces.{found, more_of, is_flat, IsFront};
 
-use layer_ast::{LONGEST_WORD, Sign};
+use layer_words::{LONGEST_WORD, Sign};
 
 /// What a text begins with, and how many bytes of it stand after its first.
 #[derive(Clone, Copy)]
@@ -48,6 +49,7 @@ pub fn piece_at(after_number: bool, first: u8, following: &[u8], text: &[u8]) ->
     symbol(first, following)
 }
 
+/// Whether a byte stands between tokens: a blank, a tab, a carriage return or a line feed.
 pub fn is_blank(byte: u8) -> bool
     ensures { result ≡ is_gap byte }
 {
@@ -152,7 +154,7 @@ fn value(digits: &[u8]) -> Option<u32>
     Some(value)
 }
 
-#[tactic(auto, unfolding(layer_ast::specs::Spelling::symbol_at, layer_ast::specs::Spelling::symbols))]
+#[tactic(auto, unfolding(layer_ast::specs::Cut::symbol_at, layer_words::specs::Spelling::symbols))]
 fn symbol(first: u8, following: &[u8]) -> Piece
     ensures piece { (text : List ℕ) → found text result ≡ symbol_piece (first ∷ following.now) }
     ensures front { (text : List ℕ) → IsFront text result }

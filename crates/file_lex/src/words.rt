@@ -2,12 +2,14 @@
 ghost use Rattle.std.specs.Prelude.{◌≡◌, ◌≤◌, ◌++◌, ◌∷◌, [], OnOk, true, nat_eq, length, find};
 ghost use Rattle.std.specs.Option.{option_map};
 ghost use Rattle.std.specs.Str.{bytes_eq};
-ghost use Rattle.layer_ast.specs.Spelling.{word_token as token_of, beside, reserved, kinds};
+ghost use Rattle.layer_ast.specs.Cut.{word_token as token_of};
+ghost use Rattle.layer_words.specs.Spelling.{beside, reserved};
 ghost use Rattle.file_lex.specs.Parts.{begins_part};
 ghost use Rattle.file_lex.specs.Tables.{shown_table, shown_groups, beside_in_group, are_in_row};
-ghost use Rattle.layer_ast.specs.WordBytes.{longest_word};
+ghost use Rattle.layer_words.specs.WordBytes.{longest_word};
 
-use layer_ast::{At, Kind, Lexed, Sign, Token, Word};
+use layer_ast::{Lexed, Token};
+use layer_words::{At, Kind, Sign, Word};
 use std::alloc::AllocError;
 
 /// Each reserved word that isn't a kind, under its first letter; the letters follow one another.
@@ -95,44 +97,8 @@ static RESERVED: [(u8, &[(&[u8], Sign)]); 23] = [
     (b'w', &[(b"with", Sign::With)]),
 ];
 
-/// The word of each kind, under its first letter; the letters follow one another.
-static KINDS: [(u8, &[(&[u8], Kind)]); 22] = [
-    (b'A', &[(b"Ack", Kind::Ack)]),
-    (
-        b'B',
-        &[(b"Block", Kind::Block), (b"BlockOk", Kind::BlockOk)],
-    ),
-    (b'C', &[(b"Cast", Kind::Cast)]),
-    (b'D', &[]),
-    (b'E', &[(b"Elect", Kind::Elect)]),
-    (b'F', &[(b"Flushed", Kind::Flushed)]),
-    (b'G', &[]),
-    (b'H', &[]),
-    (b'I', &[]),
-    (b'J', &[]),
-    (b'K', &[]),
-    (b'L', &[(b"Leave", Kind::Leave)]),
-    (b'M', &[]),
-    (b'N', &[]),
-    (b'O', &[]),
-    (b'P', &[]),
-    (b'Q', &[]),
-    (b'R', &[]),
-    (
-        b'S',
-        &[
-            (b"Send", Kind::Send),
-            (b"Suspect", Kind::Suspect),
-            (b"Stable", Kind::Stable),
-        ],
-    ),
-    (b'T', &[(b"Timer", Kind::Timer)]),
-    (b'U', &[]),
-    (b'V', &[(b"View", Kind::View)]),
-];
-
 /// Adds the token of a word at its place.
-#[tactic(auto, unfolding(layer_ast::specs::Spelling::word_token))]
+#[tactic(auto, unfolding(layer_ast::specs::Cut::word_token))]
 pub fn push_word(tokens: &mut Vec<Lexed>, word: &[u8], at: At) -> Result<(), AllocError>
     requires { 1 ≤ length word.now × length word.now ≤ longest_word }
     ensures { OnOk result (tokens.new.items ≡ tokens.old.items ++ record { token = token_of word.now; at = at } ∷ []) }
@@ -142,7 +108,7 @@ pub fn push_word(tokens: &mut Vec<Lexed>, word: &[u8], at: At) -> Result<(), All
         tokens.push(Lexed { token, at })?;
         return Ok(());
     }
-    match kind(word) {
+    match Kind::of_word(word) {
         Some(kind) => {
             let token = Token::Kind(kind);
             tokens.push(Lexed { token, at })?;
@@ -168,13 +134,6 @@ fn reserved_sign(word: &[u8]) -> Option<Sign>
     ensures { result ≡ beside reserved word.now }
 {
     found_among(b'a', &RESERVED, word)
-}
-
-fn kind(word: &[u8]) -> Option<Kind>
-    requires { 1 ≤ length word.now }
-    ensures { result ≡ beside kinds word.now }
-{
-    found_among(b'A', &KINDS, word)
 }
 
 /// What stands beside a word in a table whose entries stand under their first bytes, which follow one another.

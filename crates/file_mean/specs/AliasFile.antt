@@ -1,10 +1,10 @@
 -- A file whose layer writes to an element of an array before a condition that reads one, perhaps the same.
 use Rattle.std.specs.Prelude.{ℕ, List, [], ◌∷◌, ◌++◌, codes, false, Some}
-use Rattle.layer_ast.specs.declared.tokens.Dir.TheVariants.{Down}
-use Rattle.layer_ast.specs.declared.tokens.Kind.TheVariants as kind
-use Rattle.layer_ast.specs.declared.syntax.Likely.TheVariants.{First}
-use Rattle.layer_ast.specs.declared.syntax.Operator.TheVariants.{Add, Equal, BitAnd}
-use Rattle.layer_ast.specs.declared.syntax.Shape.TheVariants.{One, Array}
+use Rattle.layer_words.specs.declared.events.Dir.TheVariants.{Down}
+use Rattle.layer_words.specs.declared.events.Kind.TheVariants as kind
+use Rattle.layer_words.specs.declared.sorts.Likely.TheVariants.{First}
+use Rattle.layer_words.specs.declared.operators.Operator.TheVariants.{Add, Equal, BitAnd}
+use Rattle.layer_words.specs.declared.sorts.Shape.TheVariants.{One, Array}
 use Rattle.layer_ast.specs.Reader.{file_of}
 use Rattle.layer_ast.specs.Tree.{FileTree}
 use Rattle.layer_mean.specs.Tree as mean

@@ -1,10 +1,10 @@
 -- A file whose handler declares one name in two blocks and once more after them.
 use Rattle.std.specs.Prelude.{ℕ, List, [], ◌∷◌, ◌++◌, codes, false, Some}
-use Rattle.layer_ast.specs.declared.tokens.Dir.TheVariants.{Up}
-use Rattle.layer_ast.specs.declared.tokens.Kind.TheVariants as kind
-use Rattle.layer_ast.specs.declared.syntax.Likely.TheVariants.{First}
-use Rattle.layer_ast.specs.declared.syntax.Operator.TheVariants.{Add, Subtract, Multiply, Equal}
-use Rattle.layer_ast.specs.declared.syntax.Shape.TheVariants.{One}
+use Rattle.layer_words.specs.declared.events.Dir.TheVariants.{Up}
+use Rattle.layer_words.specs.declared.events.Kind.TheVariants as kind
+use Rattle.layer_words.specs.declared.sorts.Likely.TheVariants.{First}
+use Rattle.layer_words.specs.declared.operators.Operator.TheVariants.{Add, Subtract, Multiply, Equal}
+use Rattle.layer_words.specs.declared.sorts.Shape.TheVariants.{One}
 use Rattle.layer_ast.specs.Reader.{file_of}
 use Rattle.layer_ast.specs.Tree.{FileTree}
 use Rattle.layer_mean.specs.Tree as mean

@@ -1,10 +1,10 @@
 -- The file of the counter layer: each cast carries the sender's count, and `e` has the number that is due from each
 -- member.
 use Rattle.std.specs.Prelude.{ℕ, List, [], ◌∷◌, ◌++◌, codes, false, Some}
-use Rattle.layer_ast.specs.declared.tokens.Dir.TheVariants.{Up, Down}
-use Rattle.layer_ast.specs.declared.tokens.Kind.TheVariants as kind
-use Rattle.layer_ast.specs.declared.syntax.Operator.TheVariants.{Add, Equal}
-use Rattle.layer_ast.specs.declared.syntax.Shape.TheVariants.{One, Array}
+use Rattle.layer_words.specs.declared.events.Dir.TheVariants.{Up, Down}
+use Rattle.layer_words.specs.declared.events.Kind.TheVariants as kind
+use Rattle.layer_words.specs.declared.operators.Operator.TheVariants.{Add, Equal}
+use Rattle.layer_words.specs.declared.sorts.Shape.TheVariants.{One, Array}
 use Rattle.layer_ast.specs.Reader.{file_of}
 use Rattle.layer_ast.specs.Tree.{FileTree}
 use Rattle.layer_mean.specs.Tree as mean

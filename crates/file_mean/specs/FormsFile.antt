@@ -1,11 +1,11 @@
 -- A file with the forms of expressions and statements that the other files lack: a square array, a choice, parts in
 -- front of messages, and an event of two numbers.
 use Rattle.std.specs.Prelude.{ℕ, List, [], ◌∷◌, ◌++◌, codes, true, false, Some, None}
-use Rattle.layer_ast.specs.declared.tokens.Dir.TheVariants.{Up, Down}
-use Rattle.layer_ast.specs.declared.tokens.Kind.TheVariants as kind
-use Rattle.layer_ast.specs.declared.syntax.Function.TheVariants.{Bit, Count}
-use Rattle.layer_ast.specs.declared.syntax.Operator.TheVariants.{Add, Equal, Greater}
-use Rattle.layer_ast.specs.declared.syntax.Shape.TheVariants.{Square}
+use Rattle.layer_words.specs.declared.events.Dir.TheVariants.{Up, Down}
+use Rattle.layer_words.specs.declared.events.Kind.TheVariants as kind
+use Rattle.layer_words.specs.declared.operators.Function.TheVariants.{Bit, Count}
+use Rattle.layer_words.specs.declared.operators.Operator.TheVariants.{Add, Equal, Greater}
+use Rattle.layer_words.specs.declared.sorts.Shape.TheVariants.{Square}
 use Rattle.layer_ast.specs.Reader.{file_of}
 use Rattle.layer_ast.specs.Tree.{FileTree}
 use Rattle.layer_mean.specs.Tree as mean
@@ -34,7 +34,7 @@ text =
 abbrev pub file : FileTree
 file = file_of text
 
--- Its handler of acknowledgements, and that of casts on their way down.
+-- The meaning of its handler of acknowledgements that come up.
 abbrev pub acknowledgement_handler : mean.HandlerTree
 acknowledgement_handler = record {
   direction = Up;
@@ -58,6 +58,7 @@ acknowledgement_handler = record {
       mean.none);
 }
 
+-- The meaning of its handler of casts on their way down.
 abbrev pub cast_handler : mean.HandlerTree
 cast_handler = record {
   direction = Down;

@@ -1,7 +1,7 @@
 -- What the library brings to a file, and when a text is a file.
 use Rattle.std.specs.Prelude.{◌≡◌, ℕ, List, [], ◌∷◌, map, filter, filter_map, Bool, not, bytes_eq, None}
 use Rattle.std.specs.List.{AllZip, list_any}
-use Rattle.layer_ast.specs.declared.names.Word.{Word}
+use Rattle.layer_words.specs.declared.words.Word.{Word}
 use Rattle.layer_ast.specs.Cut.{text_tokens}
 use Rattle.layer_ast.specs.Print as printed
 use Rattle.layer_ast.specs.Spells.{Fits, Spells}

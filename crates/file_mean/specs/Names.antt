@@ -7,9 +7,9 @@ use Rattle.std.specs.Map.{lookup}
 use Rattle.std.specs.Option.{option_map_or}
 use Rattle.msg_core.specs.declared.message.Header.{Header}
 use Rattle.layer_ast.specs.declared.names.Name.{Name}
-use Rattle.layer_ast.specs.declared.names.Word.{Word}
-use Rattle.layer_ast.specs.declared.syntax.Sort.{Sort}
-use Rattle.layer_ast.specs.declared.syntax.Sort.TheVariants.{Int, Msg, Part}
+use Rattle.layer_words.specs.declared.words.Word.{Word}
+use Rattle.layer_words.specs.declared.sorts.Sort.{Sort}
+use Rattle.layer_words.specs.declared.sorts.Sort.TheVariants.{Int, Msg, Part}
 use Rattle.layer_ast.specs.Tree.{DeclarationTree, rows_cell, rows_array, ItemTree, LayerTree, GivenTree, SizeTree}
 use Rattle.layer_ast.specs.Tree.{fixed, sized}
 use Rattle.layer_mean.specs.Tree.{Carried, part, whole}
@@ -28,19 +28,22 @@ abbrev pub size_value : Placed → SizeTree → ℕ
 size_value p (fixed at value) = value
 size_value p (sized name) = unwrap_or (param_value p.layer p.given name.word) 0
 
--- The number of the cell of a name, and the tag of its header.
+-- The number of the cell of a name, from 0; 0 where it names none.
 abbrev pub cell_of : Placed → Name → ℕ
 cell_of p name = unwrap_or (cell_number p.layer name.word) 0
 
+-- The tag of the header of a name; 0, that of `none`, where it names no declared header.
 abbrev pub tag_of : Placed → Name → ℕ
 tag_of p name = unwrap_or (header_tag p.layer name.word) 0
 
--- The capacity of a queue; what is no queue has none.
+-- The capacity, in rows, of the queue that a declaration declares, or of each queue of its array; 0 for any other
+-- declaration.
 abbrev pub capacity_declared : Placed → DeclarationTree → ℕ
 capacity_declared p (rows_cell at name capacity items) = size_value p capacity
 capacity_declared p (rows_array at name capacity items) = size_value p capacity
 capacity_declared p _ = 0
 
+-- The capacity, in rows, of the queue of a name, or of each queue of its array; 0 where it names none.
 abbrev pub capacity_of : Placed → Name → ℕ
 capacity_of p queue = option_map_or (capacity_declared p) (declaration_of p.layer queue.word) 0
 
@@ -58,12 +61,12 @@ carried_in p items = option_and_then (λ i. carried_as p.blank i.sort) (last_or 
 abbrev pub item_number : List ItemTree → Name → ℕ
 item_number items label = unwrap_or (position (λ i. bytes_eq i.name.word label.word) items) 0
 
--- Of things that each stand for a number, or the last of them for a message: those of the numbers, and that of the
--- message.
+-- Of things that each stand for a number, except the last where it stands for a message: those of the numbers.
 abbrev pub numbers_among : {A : Type 0} → Bool → List A → List A
 numbers_among true xs = take (length xs - 1) xs
 numbers_among false xs = xs
 
+-- The last of some things, where it stands for a message.
 abbrev pub message_among : {A : Type 0} → Bool → List A → Option A
 message_among true xs = last_or None xs
 message_among false xs = None
@@ -89,22 +92,24 @@ own_names p = record { place = p; numbers = []; messages = []; taken = record { 
 abbrev pub in_slots : ℕ → List Name → List (Word × ℕ)
 in_slots first names = zip (map (λ name. name.word) names) (range_with_len first (length names))
 
--- Names with new ones for numbers, and with new ones for messages.
+-- Names with new ones for numbers, in the next free slots of numbers.
 abbrev pub with_numbers : List Name → Names → Names
 with_numbers new names = record names {
   numbers = in_slots names.taken.numbers new ++ names.numbers;
   taken = record { numbers = names.taken.numbers + length new; messages = names.taken.messages };
 }
 
+-- Names with new ones for messages, in the next free slots of messages.
 abbrev pub with_messages : List Name → Names → Names
 with_messages new names = record names {
   messages = in_slots names.taken.messages new ++ names.messages;
   taken = record { numbers = names.taken.numbers; messages = names.taken.messages + length new };
 }
 
--- The slot of a visible number, and of a visible message.
+-- The slot of a visible number, if the name is one.
 abbrev pub number_slot : Names → Name → Option ℕ
 number_slot names name = lookup (bytes_eq name.word) names.numbers
 
+-- The slot of a visible message; 0 where the name isn't one.
 abbrev pub message_slot : Names → Name → ℕ
 message_slot names name = unwrap_or (lookup (bytes_eq name.word) names.messages) 0

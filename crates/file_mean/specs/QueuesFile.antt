@@ -1,9 +1,9 @@
 -- A file whose layer keeps queues of messages and of parts and stands in the stack twice, and the stack that it means.
 use Rattle.std.specs.Prelude.{ℕ, List, [], ◌∷◌, ◌++◌, codes, true, false, Some}
-use Rattle.layer_ast.specs.declared.tokens.Dir.TheVariants.{Up, Down}
-use Rattle.layer_ast.specs.declared.tokens.Kind.TheVariants as kind
-use Rattle.layer_ast.specs.declared.syntax.Likely.TheVariants.{Else}
-use Rattle.layer_ast.specs.declared.syntax.Operator.TheVariants.{Greater}
+use Rattle.layer_words.specs.declared.events.Dir.TheVariants.{Up, Down}
+use Rattle.layer_words.specs.declared.events.Kind.TheVariants as kind
+use Rattle.layer_words.specs.declared.sorts.Likely.TheVariants.{Else}
+use Rattle.layer_words.specs.declared.operators.Operator.TheVariants.{Greater}
 use Rattle.layer_ast.specs.Reader.{file_of}
 use Rattle.layer_ast.specs.Tree.{FileTree}
 use Rattle.layer_mean.specs.Tree as mean

@@ -3,8 +3,8 @@ use Rattle.std.specs.Prelude.{ℕ, List, [], ◌∷◌, map, length, is_some, Op
 use Rattle.std.specs.List.{range_with_len}
 use Rattle.std.specs.Option.{option_map_or}
 use Rattle.layer_ast.specs.declared.names.Name.{Name}
-use Rattle.layer_ast.specs.declared.tokens.Dir.{Dir}
-use Rattle.layer_ast.specs.declared.tokens.Kind.{Kind}
+use Rattle.layer_words.specs.declared.events.Dir.{Dir}
+use Rattle.layer_words.specs.declared.events.Kind.{Kind}
 use Rattle.layer_ast.specs.Tree as ast
 use Rattle.layer_mean.specs.Event.{carries}
 use Rattle.layer_mean.specs.Tree.{ExpressionTree, number, EmissionTree, RowTree, TakenTree, StatementTree, bind, assign}
@@ -16,10 +16,11 @@ use Rattle.file_mean.specs.Names.{Names, cell_of, tag_of, capacity_of, size_valu
 use Rattle.file_mean.specs.Names.{with_numbers, with_messages}
 use Rattle.file_mean.specs.Values.{number_of, queue_carries, queue_cell, queue_index, argument_number, argument_message}
 
--- The tag and the fields of the header that an emission puts on: without one it is `none`, which has tag 0.
+-- The tag of the header that an emission puts on: without one it is `none`, which has tag 0.
 abbrev pub pushed_tag : Names → Option ast.PushedTree → ℕ
 pushed_tag names pushed = option_map_or (λ p. tag_of names.place p.name) pushed 0
 
+-- The fields of the header that an emission puts on: none without one.
 abbrev pub pushed_fields : Names → Option ast.PushedTree → List ExpressionTree
 pushed_fields names pushed = option_map_or (λ p. map (argument_number names) (arguments_in p.fields)) pushed []
 
@@ -47,12 +48,14 @@ pushed_row names q items =
       message = option_map (argument_message names) (message_among has_message items);
     }
 
--- The names that are visible once a row is taken from a queue, and the slots that the row fills.
+-- The names that are visible once a row is taken from a queue: the row's parts have new slots.
 abbrev pub with_taken : ast.QueueTree → List Name → Names → Names
 with_taken q new names =
     let has_message = is_some (queue_carries names q) in
     with_messages (option_to_list (message_among has_message new)) (with_numbers (numbers_among has_message new) names)
 
+-- The slots that a row taken from a queue fills: the next free ones of numbers, and where its rows carry a message, the
+-- next free one of messages.
 abbrev pub taken_row : Names → ast.QueueTree → List Name → TakenTree
 taken_row names q new = record {
   numbers = range_with_len names.taken.numbers (length (numbers_among (is_some (queue_carries names q)) new));

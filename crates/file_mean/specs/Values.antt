@@ -16,13 +16,15 @@ named_number names name = unwrap_or
     (option_map number (param_value names.place.layer names.place.given name.word)))
     (element (cell_of names.place name) (number 0))
 
--- The items of the rows of a queue, and what these rows carry.
+-- The items of the rows of a queue.
 abbrev pub queue_row : Names → ast.QueueTree → List ast.ItemTree
 queue_row names q = row_of names.place.layer (queue_name q).word
 
+-- What the rows of a queue carry beside their numbers, if anything: a part, or a message of the layers above.
 abbrev pub queue_carries : Names → ast.QueueTree → Option Carried
 queue_carries names q = carried_in names.place (queue_row names q)
 
+-- The number, from 0, of the cell of a queue, or of the array to which it belongs.
 abbrev pub queue_cell : Names → ast.QueueTree → ℕ
 queue_cell names q = cell_of names.place (queue_name q)
 
@@ -56,6 +58,7 @@ abbrev mutual
   message_of names (ast.bare name) = message (message_slot names name)
   message_of names (ast.built b) = built_of names b
 
+  -- The message of a message expression that is no bare name.
   pub built_of : Names → ast.BuiltTree → MessageTree
   built_of names (ast.nothing at) = nothing
   built_of names (ast.held at q row) = held (queue_cell names q) (queue_index names q) (number_of names row)
@@ -64,11 +67,12 @@ abbrev mutual
   built_of names (ast.tail at m from) = tail (message_of names m) (number_of names from)
   built_of names (ast.join at first second) = join (message_of names first) (message_of names second)
 
--- An argument as a number, and as a message: a bare name stands for either.
+-- An argument as a number; what can only be a message gives 0.
 abbrev pub argument_number : Names → ast.ArgumentTree → ExpressionTree
 argument_number names (ast.value e) = number_of names e
 argument_number names (ast.content b) = number 0
 
+-- An argument as a message: a bare name is that of a message of the scope; any other number expression gives no bytes.
 abbrev pub argument_message : Names → ast.ArgumentTree → MessageTree
 argument_message names (ast.value (ast.named name)) = message (message_slot names name)
 argument_message names (ast.value e) = nothing

@@ -1,6 +1,6 @@
 -- What is found of names beyond a limit, and of a size.
 use Rattle.std.proofs.Common.{ℕ, ◌≤◌, Bool, true, false, if◌then◌else◌, List, [], ◌∷◌, map, length, sym, subst}
-use Rattle.layer_ast.specs.declared.names.At.{At}
+use Rattle.layer_words.specs.declared.places.At.{At}
 use Rattle.layer_ast.specs.declared.names.Name.{Name}
 use Rattle.fault_mean.specs.Earliest.{unless}
 use Rattle.fault_mean.specs.Faults.{too_many}

@@ -8,7 +8,7 @@ use Rattle.std.proofs.lemmas.List.Folds.{list_any-append}
 use Rattle.std.proofs.lemmas.Slice.Eq.{bytes_eq-Decides}
 use Rattle.layer_ast.specs.declared.names.Name.{Name}
 use Rattle.layer_ast.specs.declared.syntax.Handler.{Handler}
-use Rattle.layer_ast.specs.declared.syntax.Sort.{Sort}
+use Rattle.layer_words.specs.declared.sorts.Sort.{Sort}
 use Rattle.layer_ast.specs.Tree.{HandlerTree}
 use Rattle.layer_ast.specs.View.{handler_tree}
 use Rattle.fault_mean.specs.Declared.{declared_name}

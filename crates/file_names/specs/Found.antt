@@ -1,6 +1,6 @@
 -- The first fault of names that is found as a file is judged, part by part.
 use Rattle.std.specs.Prelude.{◌==◌, if◌then◌else◌, List}
-use Rattle.layer_ast.specs.declared.names.At.{At}
+use Rattle.layer_words.specs.declared.places.At.{At}
 use Rattle.fault_mean.specs.Faults.{NameFault, unknown, twice, too_many}
 use Rattle.file_scope.specs.declared.found.Fault.{Fault}
 use Rattle.file_scope.specs.declared.found.Found.{Found}

@@ -31,7 +31,7 @@ impl Resolved {
         self.tables.layers.as_slice()
     }
 
-    /// The same for each layer that the library brings.
+    /// For each layer that the library brings the table of the words that it declares, in the order of the layers.
     pub fn library_words(&self) -> &[Words]
         ensures { result.now ≡ map own_words (resolved_tree self.now).library }
     {

@@ -12,7 +12,8 @@ use crate::found::Found;
 use crate::scope::{Local, Scope, bring, declare};
 use crate::{limits, uses};
 use file_scope::row_locals;
-use layer_ast::{Block, Sort, Statement};
+use layer_ast::{Block, Statement};
+use layer_words::Sort;
 use std::alloc::{AllocError, Global};
 
 /// Judges the statements of a block, whose locals are visible in it alone.

@@ -17,10 +17,8 @@ use crate::scope::Scope;
 use crate::{limits, uses};
 use file_scope::listed;
 use layer_ast::{Declaration, Name};
+use msg_core::MOST_FIELDS;
 use std::alloc::{AllocError, Global};
-
-/// The most fields of a header.
-const MOST_FIELDS: usize = 4;
 
 /// Judges the names that a declaration uses.
 #[tactic(auto, using(file_scope::proofs::Finds::finds_none))]

@@ -3,7 +3,7 @@
 ghost use Rattle.std.specs.Prelude.{◌≡◌};
 ghost use Rattle.file_names.specs.declared.error.NameError.TheVariants.{Memory};
 
-use layer_ast::At;
+use layer_words::At;
 use std::alloc::{AllocError, AllocFailed};
 use thiserror::Error;
 

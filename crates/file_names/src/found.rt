@@ -6,7 +6,7 @@ ghost use Rattle.file_names.specs.Found.{Finds, fault_at, name_shown};
 
 use file_scope::Fault;
 pub use file_scope::Found;
-use layer_ast::At;
+use layer_words::At;
 
 /// What is wrong with a name.
 #[derive(Clone, Copy, PartialEq, Eq, Debug)]

@@ -53,7 +53,7 @@ pub fn block(names: &mut Vec<Name>, maxima: &mut Words, b: &Block) -> Result<(),
     statements(names, maxima, &b.statements)
 }
 
-/// The same of statements one after the other.
+/// Adds what statements one after the other declare, and those of their maxima that are names.
 #[cycle(gather)]
 #[tactic(auto, using(crate::proofs::Gathered::gathers_none, crate::proofs::Gathered::gathers_more))]
 fn statements(
@@ -71,7 +71,7 @@ fn statements(
     Ok(())
 }
 
-/// The same of the statements inside a statement.
+/// Adds what the statements inside a statement declare, and those of their maxima that are names.
 #[cycle(gather)]
 #[tactic(auto, using(crate::proofs::Gathered::gathers_none, crate::proofs::Gathered::gathers_both))]
 fn inside(names: &mut Vec<Name>, maxima: &mut Words, s: &Statement) -> Result<(), AllocError>

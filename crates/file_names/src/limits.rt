@@ -13,7 +13,8 @@ ghost use Rattle.file_names.specs.Rows.{followed_faults};
 use crate::found::{Cause, Found, note_unless};
 use crate::names::{too_many, twice};
 use file_scope::items;
-use layer_ast::{Item, Items, Name, Size, Sort};
+use layer_ast::{Item, Items, Name, Size};
+use layer_words::Sort;
 use std::alloc::{AllocError, Global};
 
 /// The most rows of a queue.
@@ -47,7 +48,7 @@ pub fn size(found: &mut Found, most: u32, size: &Size)
 }
 
 /// Whether an item is a number.
-fn is_number(item: &Item) -> bool
+fn law_number(item: &Item) -> bool
     ensures { result ≡ allows a_number item.now.sort }
 {
     matches!(item.sort, Sort::Int)
@@ -71,7 +72,7 @@ fn numbers(alloc: Global, items: &[Item]) -> Result<Vec<Name>, AllocError>
 {
     let mut all = Vec::new(alloc);
     for item in items {
-        if is_number(item) {
+        if law_number(item) {
             all.push(item.name)?;
         }
     }
@@ -84,7 +85,7 @@ fn front(found: &mut Found, items: &[Item])
     ensures { Finds found.old (flat_map followed_faults (map item_tree items.now)) found.new }
 {
     for item in items {
-        let holds = is_number(item);
+        let holds = law_number(item);
         note_unless(found, holds, Cause::TooMany, item.name.at);
     }
 }

@@ -6,7 +6,8 @@ ghost use Rattle.file_scope.specs.Scope.{locals_of, scope_of};
 
 use crate::found::{Cause, Found, note_unless};
 pub use file_scope::{Local, Scope};
-use layer_ast::{Name, Sort};
+use layer_ast::Name;
+use layer_words::Sort;
 use std::alloc::AllocError;
 
 /// Makes a local of this name visible, which must not be visible already.

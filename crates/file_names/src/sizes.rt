@@ -5,7 +5,8 @@ ghost use Rattle.layer_ast.specs.View.{declaration_tree, size_tree};
 ghost use Rattle.file_names.specs.Gathered.{capacity_words, noted_words, size_words};
 
 use file_scope::Words;
-use layer_ast::{Declaration, Size, Word};
+use layer_ast::{Declaration, Size};
+use layer_words::Word;
 use std::alloc::{AllocError, Global};
 
 /// The names that are sizes in a layer, each once: those of capacities, and those of maxima of loops.

@@ -15,7 +15,8 @@ use crate::limits::{LARGEST_CAPACITY, LONGEST_LOOP, is_within};
 use crate::sizes::Sizes;
 use crate::tables::given_words;
 use file_scope::{Scope, Words};
-use layer_ast::{Declaration, Given, Place, Word};
+use layer_ast::{Declaration, Given, Place};
+use layer_words::Word;
 use std::alloc::{AllocError, Global};
 
 /// The value that a declaration declares for a param.

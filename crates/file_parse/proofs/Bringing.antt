@@ -8,7 +8,7 @@ use Rattle.std.proofs.lemmas.List.Folds.{list_any-append}
 use Rattle.std.proofs.lemmas.Slice.Eq.{bytes_eq-Decides}
 use Rattle.std.specs.List.{AllZip, list_any, cons_option}
 use Rattle.file_mean.specs.Library.{SpellsLayer, lacks, each_once}
-use Rattle.layer_ast.specs.declared.names.Word.{Word}
+use Rattle.layer_words.specs.declared.words.Word.{Word}
 use Rattle.layer_ast.specs.declared.syntax.Layer.{Layer}
 use Rattle.layer_ast.specs.declared.syntax.Place.{Place}
 use Rattle.layer_ast.specs.Tree.{LayerTree}

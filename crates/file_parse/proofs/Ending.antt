@@ -3,7 +3,7 @@ use Rattle.std.proofs.Common.{◌≡◌, ℕ, suc, nat_eq, true, false, List, []
 use Rattle.std.proofs.Common.{true≢false, sym, ap, ◌∙◌, ◌<◌, arith, eqb-true}
 use Rattle.layer_ast.specs.declared.tokens.Lexed.{Lexed}
 use Rattle.layer_ast.specs.Depth.{room_after}
-use Rattle.layer_ast.specs.declared.tokens.Sign.TheVariants as sign
+use Rattle.layer_words.specs.declared.signs.Sign.TheVariants as sign
 use Rattle.layer_ast.specs.Print as print
 use Rattle.layer_ast.specs.Printed.{plain}
 use Rattle.layer_ast.specs.Spells.{Fits}

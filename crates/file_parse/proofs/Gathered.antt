@@ -2,7 +2,7 @@
 use Rattle.std.proofs.Common.{◌≡◌, ℕ, suc, ◌≤◌, List, [], ◌∷◌, ◌++◌, length, map, refl, sym, ap, subst, ◌∙◌, arith}
 use Rattle.std.proofs.lemmas.List.{map-append}
 use Rattle.layer_ast.specs.declared.tokens.Lexed.{Lexed}
-use Rattle.layer_ast.specs.declared.tokens.Sign.TheVariants.{Comma, LeftParen, RightParen}
+use Rattle.layer_words.specs.declared.signs.Sign.TheVariants.{Comma, LeftParen, RightParen}
 use Rattle.layer_ast.specs.declared.names.Name.{Name}
 use Rattle.layer_ast.specs.declared.syntax.Argument.{Argument}
 use Rattle.layer_ast.specs.declared.syntax.Declaration.{Declaration}

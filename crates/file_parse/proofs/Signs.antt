@@ -2,11 +2,11 @@
 use Rattle.std.proofs.Common.{◌≡◌, ℕ, suc, true, if◌then◌else◌, List, [], ◌∷◌, length, Option, Some, refl, ap, ◌∙◌}
 use Rattle.std.proofs.Common.{arith}
 use denote.Enum.Bare.{same_true}
-use Rattle.layer_ast.specs.contracts.tokens.Sign.{the_type}
+use Rattle.layer_words.specs.contracts.signs.Sign.{the_type}
 use Rattle.layer_ast.specs.declared.tokens.Lexed.{Lexed}
-use Rattle.layer_ast.specs.declared.tokens.Sign.{Sign}
-use Rattle.layer_ast.specs.declared.tokens.Sign.TheVariants.{LeftBrace, RightBrace, LeftParen, RightParen, LeftBracket}
-use Rattle.layer_ast.specs.declared.tokens.Sign.TheVariants.{RightBracket}
+use Rattle.layer_words.specs.declared.signs.Sign.{Sign}
+use Rattle.layer_words.specs.declared.signs.Sign.TheVariants.{LeftBrace, RightBrace, LeftParen, RightParen, LeftBracket}
+use Rattle.layer_words.specs.declared.signs.Sign.TheVariants.{RightBracket}
 use Rattle.layer_ast.specs.declared.tokens.Token.{Token}
 use Rattle.layer_ast.specs.declared.tokens.Token.TheVariants as token
 use Rattle.layer_ast.specs.Depth.{room_inside, room_after}

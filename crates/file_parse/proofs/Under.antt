@@ -3,7 +3,7 @@ use Rattle.std.proofs.Common.{◌≡◌, ℕ, suc, Bool, true, false, if◌then�
 use Rattle.std.proofs.Common.{None, Result, Ok, Err, refl, ◌∙◌}
 use Rattle.std.specs.Borrow.{Bor}
 use Rattle.layer_ast.specs.declared.tokens.Lexed.{Lexed}
-use Rattle.layer_ast.specs.declared.tokens.Sign.{Sign}
+use Rattle.layer_words.specs.declared.signs.Sign.{Sign}
 use Rattle.layer_ast.specs.Depth.{room_after}
 use Rattle.layer_ast.specs.Printed.{Printed}
 use Rattle.grammar_laws.specs.Machine.{Symbol, one, is_sign, eats, refuses, stack_after, feed, step, run, Outcome}

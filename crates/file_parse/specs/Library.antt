@@ -2,7 +2,7 @@
 use Rattle.std.specs.Prelude.{◌≡◌, ◌≢◌, ℕ, ◌≤◌, List, [], ◌∷◌, ◌++◌, length, filter, filter_map, Bool, bytes_eq, None}
 use Rattle.std.specs.List.{AllZip, list_any}
 use Rattle.file_mean.specs.Library.{SpellsLayer, lacks, each_once}
-use Rattle.layer_ast.specs.declared.names.Word.{Word}
+use Rattle.layer_words.specs.declared.words.Word.{Word}
 use Rattle.layer_ast.specs.Cut.{text_tokens}
 use Rattle.layer_ast.specs.Spells.{longest_file}
 use Rattle.layer_ast.specs.Tree.{LayerTree, FileTree}

@@ -1,17 +1,17 @@
 -- How the parts that are no trees of their own are printed.
 use Rattle.std.specs.Prelude.{◌≡◌, Bool, true, false, List, [], ◌∷◌, Option, Some, None, option_map, Result, Ok, Err}
 use Rattle.std.specs.Borrow.{Bor}
-use Rattle.layer_ast.specs.declared.names.At.{At}
+use Rattle.layer_words.specs.declared.places.At.{At}
 use Rattle.layer_ast.specs.declared.names.Name.{Name}
 use Rattle.layer_ast.specs.declared.tokens.Lexed.{Lexed}
-use Rattle.layer_ast.specs.declared.tokens.Sign.TheVariants.{LeftParen, RightParen, LeftBracket, RightBracket, Comma}
-use Rattle.layer_ast.specs.declared.tokens.Sign.TheVariants.{Semicolon, Assign, Star, N, Else, If, Set, State, Queue}
-use Rattle.layer_ast.specs.declared.tokens.Sign.TheVariants.{Of}
+use Rattle.layer_words.specs.declared.signs.Sign.TheVariants.{LeftParen, RightParen, LeftBracket, RightBracket, Comma}
+use Rattle.layer_words.specs.declared.signs.Sign.TheVariants.{Semicolon, Assign, Star, N, Else, If, Set, State, Queue}
+use Rattle.layer_words.specs.declared.signs.Sign.TheVariants.{Of}
 use Rattle.layer_ast.specs.declared.syntax.Block.{Block}
 use Rattle.layer_ast.specs.declared.syntax.Declaration.{Declaration}
 use Rattle.layer_ast.specs.declared.syntax.Expression.{Expression}
 use Rattle.layer_ast.specs.declared.syntax.Items.{Items}
-use Rattle.layer_ast.specs.declared.syntax.Likely.{Likely}
+use Rattle.layer_words.specs.declared.sorts.Likely.{Likely}
 use Rattle.layer_ast.specs.declared.syntax.Statement.{Statement}
 use Rattle.layer_ast.specs.Print.{expression, queue, index, names, some_names, arguments, some_arguments, likely, block}
 use Rattle.layer_ast.specs.Print.{statement, item, more_items, declaration}

@@ -4,9 +4,10 @@ use Rattle.std.specs.Prelude.{◌≡◌, ◌≢◌, ◌<◌, ℕ, Bool, true, fa
 use Rattle.std.specs.Prelude.{None, Result, Ok, Err}
 use Rattle.std.specs.Borrow.{Bor}
 use Rattle.layer_ast.specs.declared.tokens.Lexed.{Lexed}
-use Rattle.layer_ast.specs.declared.tokens.Sign.{Sign}
-use Rattle.layer_ast.specs.declared.tokens.Sign.TheVariants.{Stack, LeftBrace, RightBrace, LeftParen, RightParen}
-use Rattle.layer_ast.specs.declared.tokens.Sign.TheVariants.{LeftBracket, RightBracket, Comma, With, Star, Assign, Else}
+use Rattle.layer_words.specs.declared.signs.Sign.{Sign}
+use Rattle.layer_words.specs.declared.signs.Sign.TheVariants.{Stack, LeftBrace, RightBrace, LeftParen, RightParen}
+use Rattle.layer_words.specs.declared.signs.Sign.TheVariants.{LeftBracket, RightBracket, Comma, With, Star, Assign}
+use Rattle.layer_words.specs.declared.signs.Sign.TheVariants.{Else}
 use Rattle.layer_ast.specs.declared.tokens.Token.TheVariants as token
 use Rattle.layer_ast.specs.Depth.{room_after}
 use Rattle.layer_ast.specs.Print.{file, layer, places as print_places}
@@ -47,7 +48,8 @@ abbrev pub Parses : {A T : Type 0} → (T → List Printed → List Printed) →
     Result (A × Bor (List Lexed)) Fault → Type 0
 Parses print view s room tokens result = ParsesAll print view (s ∷ []) room tokens result
 
--- the same of a part with no brackets in it, or of a single sign, which changes the room in this way
+-- the tokens are those of a tree with no brackets in it, or of a single sign, and then the rest; the machine expects
+-- these symbols and goes on after the tree, with its room changed in this way
 pub record ReadsFlat {T : Type 0} (print : T → List Printed → List Printed) (expected : List Symbol) (change : ℕ → ℕ)
     (tokens : List Lexed) (tree : T) (rest : List Lexed) : Type 0 where
   pub spelled : (k : List Printed) → Fits k rest → Fits (print tree k) tokens
@@ -156,7 +158,8 @@ pub record Gathers {T : Type 0} (print : T → List Printed → List Printed) (s
   pub goes_on : (stack : List Symbol) → run room (s ∷ stack) tokens ≡ run room (s ∷ stack) rest
   pub no_longer : length rest ≤ length tokens
 
--- the same where the machine first expects these symbols
+-- these are the parts so far of a repetition, and the machine, which first expects these symbols, goes on with the
+-- repetition after them
 pub record GathersAfter {T : Type 0} (print : T → List Printed → List Printed) (expected : List Symbol) (s : Symbol)
     (room : ℕ)
     (tokens : List Lexed) (tree : T) (rest : List Lexed) : Type 0 where
@@ -164,7 +167,8 @@ pub record GathersAfter {T : Type 0} (print : T → List Printed → List Printe
   pub goes_on : (stack : List Symbol) → run room (expected ++ stack) tokens ≡ run room (s ∷ stack) rest
   pub no_longer : length rest ≤ length tokens
 
--- the same of parts with no brackets in them, where the machine first expects these symbols
+-- these are the parts so far, with no brackets in them, of a repetition; the machine, which first expects these
+-- symbols, goes on with the repetition after them, whatever room there is
 pub record GathersFlat {T : Type 0} (print : T → List Printed → List Printed) (expected : List Symbol) (s : Symbol)
     (tokens : List Lexed) (tree : T) (rest : List Lexed) : Type 0 where
   pub spelled : (k : List Printed) → Fits k rest → Fits (print tree k) tokens

@@ -3,7 +3,7 @@ ghost use Rattle.std.specs.Prelude.{[], ◌∷◌, map};
 ghost use Rattle.std.specs.Option.{option_map};
 ghost use Rattle.layer_ast.specs.Print as print;
 ghost use Rattle.layer_ast.specs.View.{argument_tree, arguments_tree};
-ghost use Rattle.layer_ast.specs.declared.tokens.Sign.TheVariants.{LeftParen, RightParen};
+ghost use Rattle.layer_words.specs.declared.signs.Sign.TheVariants.{LeftParen, RightParen};
 ghost use Rattle.grammar_laws.specs.Machine.{one, an_expression, a_built, an_argument};
 ghost use Rattle.grammar_laws.specs.Machine.{more_arguments as arguments_after, some_arguments as one_or_no_arguments};
 ghost use Rattle.file_parse.specs.Parts.{arguments_within, some_arguments_within};
@@ -11,7 +11,8 @@ ghost use Rattle.file_parse.specs.Reading.{Parses, ParsesAll, SeesPart, SeesOneO
 
 use crate::expressions::{built, expression};
 use crate::readers::{Fault, close, open, past, push_item, read};
-use layer_ast::{Argument, Arguments, Lexed, Sign, Token};
+use layer_ast::{Argument, Arguments, Lexed, Token};
+use layer_words::Sign;
 use std::alloc::Global;
 
 /// Reads arguments with commas between them, in parentheses.

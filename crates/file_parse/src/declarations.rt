@@ -2,8 +2,8 @@
 ghost use Rattle.std.specs.Prelude.{◌≡◌, ◌<◌, ◌≤◌, [], ◌∷◌, length, map, IfOk, option_map};
 ghost use Rattle.layer_ast.specs.Print as print;
 ghost use Rattle.layer_ast.specs.View.{expression_tree, item_tree, items_tree, declaration_tree};
-ghost use Rattle.layer_ast.specs.declared.tokens.Sign.TheVariants.{N, Of, LeftBracket, RightBracket, LeftParen};
-ghost use Rattle.layer_ast.specs.declared.tokens.Sign.TheVariants.{RightParen, Colon, Semicolon};
+ghost use Rattle.layer_words.specs.declared.signs.Sign.TheVariants.{N, Of, LeftBracket, RightBracket, LeftParen};
+ghost use Rattle.layer_words.specs.declared.signs.Sign.TheVariants.{RightParen, Colon, Semicolon};
 ghost use Rattle.grammar_laws.specs.Machine.{one, a_name, a_sort, a_size, a_square, a_shape, an_initial, a_capacity};
 ghost use Rattle.grammar_laws.specs.Machine.{an_item, more_items as items_after, a_declaration};
 ghost use Rattle.grammar_laws.specs.Machine.{declarations as more_declarations};
@@ -15,7 +15,8 @@ use crate::names::some_names_in_parentheses;
 use crate::readers::{
     Fault, close, ending, name, number, open, past, read, room_inside, sign, size, sort,
 };
-use layer_ast::{At, Declaration, Expression, Item, Items, Lexed, Name, Shape, Sign, Size, Token};
+use layer_ast::{Declaration, Expression, Item, Items, Lexed, Name, Size, Token};
+use layer_words::{At, Shape, Sign};
 use std::alloc::Global;
 
 /// The capacity of a queue, or of each queue of an array of queues.

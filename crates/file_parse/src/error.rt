@@ -2,7 +2,7 @@
 ghost use Rattle.std.specs.Prelude.{◌≡◌};
 ghost use Rattle.file_parse.specs.declared.error.ParseError.TheVariants.{Memory};
 
-use layer_ast::At;
+use layer_words::At;
 use std::alloc::AllocError;
 use thiserror::Error;
 

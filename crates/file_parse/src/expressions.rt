@@ -2,17 +2,16 @@
 ghost use Rattle.std.specs.Prelude.{◌≡◌, [], ◌∷◌};
 ghost use Rattle.std.specs.Option.{option_map};
 ghost use Rattle.layer_ast.specs.Print as print;
-ghost use Rattle.layer_ast.specs.Printed.{function_sign};
+ghost use Rattle.layer_words.specs.Signs.{function_sign};
 ghost use Rattle.layer_ast.specs.View.{expression_tree, queue_tree, message_tree, built_tree};
-ghost use Rattle.layer_ast.specs.declared.tokens.Sign.TheVariants.{LeftParen, Comma, RightParen};
+ghost use Rattle.layer_words.specs.declared.signs.Sign.TheVariants.{LeftParen, Comma, RightParen};
 ghost use Rattle.grammar_laws.specs.Machine.{one, a_name, an_expression, an_index, a_message, a_built};
 ghost use Rattle.file_parse.specs.Parts.{print_indices, print_pair, pair_tree, print_row, row_tree};
 ghost use Rattle.file_parse.specs.Reading.{Parses, ParsesAll, SeesOneOf};
 
 use crate::readers::{Fault, close, name, open, operator, past, read, room_inside, sign};
-use layer_ast::{
-    Built, Expression, Function, Lexed, MessageExpression, Name, Queue, Sign, Token, Word,
-};
+use layer_ast::{Built, Expression, Lexed, MessageExpression, Name, Queue, Token};
+use layer_words::{Function, Sign, Word};
 use std::alloc::Global;
 
 /// The indices of an element: one, or two of a square array.

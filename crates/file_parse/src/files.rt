@@ -10,7 +10,8 @@ ghost use Rattle.file_parse.specs.Reading.{Parses, ParsesAll, ParsesAllFlat, Par
 use crate::declarations::declarations;
 use crate::handlers::handlers;
 use crate::readers::{Fault, close, name, number, open, past, read, room_inside, sign};
-use layer_ast::{File, Given, Layer, Lexed, Name, Place, Sign, Token, Word};
+use layer_ast::{File, Given, Layer, Lexed, Name, Place, Token};
+use layer_words::{Sign, Word};
 use std::alloc::Global;
 
 /// How many brackets may be open at once.

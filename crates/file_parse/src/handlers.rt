@@ -1,7 +1,7 @@
 //! Readers of handlers.
 ghost use Rattle.std.specs.Prelude.{◌≡◌, ◌<◌, ◌≤◌, [], ◌∷◌, length, map, IfOk, option_map};
 ghost use Rattle.layer_ast.specs.Print as print;
-ghost use Rattle.layer_ast.specs.Printed.{direction_sign};
+ghost use Rattle.layer_words.specs.Signs.{direction_sign};
 ghost use Rattle.layer_ast.specs.View.{expected_tree, popped_tree, handler_tree};
 ghost use Rattle.grammar_laws.specs.Machine.{a_popped, an_expected, a_handler, handlers as more_handlers};
 ghost use Rattle.file_parse.specs.Reading.{Parses, SeesPart};
@@ -10,7 +10,8 @@ use crate::expressions::expression;
 use crate::names::{names_in_parentheses, some_names_in_parentheses};
 use crate::readers::{Fault, kind, name, past, read};
 use crate::statements::block;
-use layer_ast::{Dir, Expected, Handler, Lexed, Popped, Sign, Token};
+use layer_ast::{Expected, Handler, Lexed, Popped, Token};
+use layer_words::{Dir, Sign};
 use std::alloc::Global;
 
 /// Reads handlers as long as one begins.

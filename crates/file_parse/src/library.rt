@@ -9,7 +9,8 @@ use crate::files::{DEEPEST, layer};
 use crate::readers::Fault;
 use file_lex::cut;
 use file_library::text_of;
-use layer_ast::{Layer, Place, Word};
+use layer_ast::{Layer, Place};
+use layer_words::Word;
 use std::alloc::{AllocError, Global};
 
 /// The layers of the library that places name and a file lacks, each once, in the order of the places. Each name of the

@@ -2,14 +2,15 @@
 ghost use Rattle.std.specs.Option.{option_map};
 ghost use Rattle.layer_ast.specs.Print as print;
 ghost use Rattle.layer_ast.specs.View.{names_tree};
-ghost use Rattle.layer_ast.specs.declared.tokens.Sign.TheVariants.{LeftParen, RightParen};
+ghost use Rattle.layer_words.specs.declared.signs.Sign.TheVariants.{LeftParen, RightParen};
 ghost use Rattle.grammar_laws.specs.Machine.{one, a_name, more_names as names_after, some_names as one_or_no_names};
 ghost use Rattle.std.specs.Prelude.{[], ◌∷◌};
 ghost use Rattle.file_parse.specs.Parts.{names_within, some_names_within};
 ghost use Rattle.file_parse.specs.Reading.{ParsesAll, ParsesFlat, ParsesAllFlat, SeesPart};
 
 use crate::readers::{Fault, close, name, open, past, push_item, read};
-use layer_ast::{Lexed, Name, Names, Sign, Token};
+use layer_ast::{Lexed, Name, Names, Token};
+use layer_words::Sign;
 use std::alloc::Global;
 
 /// Reads names, each after a comma, as long as there is a comma.

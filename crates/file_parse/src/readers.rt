@@ -1,8 +1,10 @@
 //! Readers of single tokens, and what every reader says.
 ghost use Rattle.std.specs.Prelude.{◌≡◌, ◌++◌, ◌∷◌, [], OnOk, suc};
 ghost use Rattle.layer_ast.specs.Print.{size as size_token};
-ghost use Rattle.layer_ast.specs.Printed.{plain, plain_numeral, name as name_token, kind as kind_token, operator_sign};
-ghost use Rattle.layer_ast.specs.Printed.{sort_sign, ending_sign};
+ghost use Rattle.layer_ast.specs.Printed.{plain, plain_numeral, name as name_token, kind as kind_token};
+ghost use Rattle.layer_words.specs.Signs.{operator_sign};
+ghost use Rattle.layer_words.specs.Signs.{sort_sign};
+ghost use Rattle.layer_ast.specs.Printed.{ending_sign};
 ghost use Rattle.layer_ast.specs.View.{size_tree};
 ghost use Rattle.grammar_laws.specs.Machine.{is_sign as has_sign, a_name, a_kind, an_operator, a_number, a_size};
 ghost use Rattle.grammar_laws.specs.Machine.{a_sort, an_ending};
@@ -10,7 +12,8 @@ ghost use Rattle.file_parse.specs.Reading.{ParsesOne, ParsesSign, ParsesOpening,
 ghost use Rattle.file_parse.specs.Reading.{IsOpening, IsClosing};
 ghost use Rattle.file_parse.specs.declared.readers.Fault.TheVariants.{Memory};
 
-use layer_ast::{Ending, Kind, Lexed, Name, Operator, Sign, Size, Sort, Token};
+use layer_ast::{Ending, Lexed, Name, Size, Token};
+use layer_words::{Kind, Operator, Sign, Sort};
 use std::alloc::{AllocError, AllocFailed};
 
 /// Why a reader gave up: with n tokens left a file goes on otherwise, or there was no memory.

@@ -1,9 +1,9 @@
 //! Readers of statements and blocks.
 ghost use Rattle.std.specs.Prelude.{◌≡◌, ◌<◌, ◌≤◌, [], ◌∷◌, length, IfOk, option_map};
 ghost use Rattle.layer_ast.specs.Print as print;
-ghost use Rattle.layer_ast.specs.Printed.{direction_sign};
+ghost use Rattle.layer_words.specs.Signs.{direction_sign};
 ghost use Rattle.layer_ast.specs.View.{expression_tree, pushed_tree, statement_tree, statement_trees, block_tree};
-ghost use Rattle.layer_ast.specs.declared.tokens.Sign.TheVariants.{Assign, Else, Semicolon};
+ghost use Rattle.layer_words.specs.declared.signs.Sign.TheVariants.{Assign, Else, Semicolon};
 ghost use Rattle.grammar_laws.specs.Machine.{one, an_expression, a_likely, a_pushed, an_otherwise, a_statement};
 ghost use Rattle.grammar_laws.specs.Machine.{statements as more_statements, a_block};
 ghost use Rattle.grammar_laws.specs.Parts.{otherwise as print_otherwise};
@@ -14,7 +14,8 @@ use crate::arguments::{arguments_in_parentheses, some_arguments_in_parentheses};
 use crate::expressions::{Element, expression, indices, queue};
 use crate::names::names_in_parentheses;
 use crate::readers::{Fault, close, kind, name, open, past, push_item, read, sign, size};
-use layer_ast::{At, Block, Dir, Expression, Lexed, Likely, Name, Pushed, Sign, Statement, Token};
+use layer_ast::{Block, Expression, Lexed, Name, Pushed, Statement, Token};
+use layer_words::{At, Dir, Likely, Sign};
 use std::alloc::Global;
 
 /// Reads statements in braces.

@@ -5,7 +5,7 @@ use Rattle.std.specs.Cmp.{nat_cmp_is}
 use Rattle.std.specs.Cmp.Lexicographic.{slice_cmp}
 use Rattle.std.specs.Ordering.{is_lt, nat_cmp, ordering_then}
 use Rattle.std.specs.declared.cmp.Ordering.TheVariants.{Equal}
-use Rattle.layer_ast.specs.declared.names.At.{At}
+use Rattle.layer_words.specs.declared.places.At.{At}
 use Rattle.fault_mean.specs.Earliest.{earlier, earlier_of, earliest, key_at, precedes}
 use Rattle.file_scope.specs.Found.{Finds, FindsBy, anywhere, fault_key, first_rank, moved_to}
 use Rattle.file_scope.specs.declared.found.Fault.{Fault}

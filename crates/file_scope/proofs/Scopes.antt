@@ -8,7 +8,7 @@ use Rattle.layer_ast.specs.View.{declaration_tree, layer_tree}
 use Rattle.layer_ast.specs.declared.syntax.Declaration.{Declaration}
 use Rattle.layer_ast.specs.declared.syntax.Layer.{Layer}
 use Rattle.layer_ast.specs.declared.names.Name.{Name}
-use Rattle.layer_ast.specs.declared.syntax.Sort.{Sort}
+use Rattle.layer_words.specs.declared.sorts.Sort.{Sort}
 use Rattle.fault_mean.specs.Declared.{declaration_of, declared_name}
 use Rattle.fault_mean.specs.Scope as names
 use Rattle.file_scope.specs.Scope.{local_of, locals_of, scope_of}

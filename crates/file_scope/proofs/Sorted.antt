@@ -8,8 +8,8 @@ use Rattle.layer_ast.specs.declared.names.Name.{Name}
 use Rattle.layer_ast.specs.declared.syntax.Item.{Item}
 use Rattle.layer_ast.specs.declared.syntax.Items.{Items}
 use Rattle.fault_mean.specs.Declared.{items_in}
-use Rattle.layer_ast.specs.declared.syntax.Sort.{Sort}
-use Rattle.layer_ast.specs.declared.syntax.Sort.TheVariants.{Int}
+use Rattle.layer_words.specs.declared.sorts.Sort.{Sort}
+use Rattle.layer_words.specs.declared.sorts.Sort.TheVariants.{Int}
 use Rattle.fault_mean.specs.Scope as names
 use Rattle.file_scope.specs.Scope.{local_of, locals_of}
 use Rattle.file_scope.specs.declared.scope.Local.{Local}

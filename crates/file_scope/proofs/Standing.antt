@@ -6,7 +6,7 @@ use Rattle.layer_ast.specs.Tree as ast
 use Rattle.layer_ast.specs.Tree.{StatementTree}
 use Rattle.layer_ast.specs.View.{trees}
 use Rattle.layer_ast.specs.declared.names.Name.{Name}
-use Rattle.layer_ast.specs.declared.syntax.Sort.{Sort}
+use Rattle.layer_words.specs.declared.sorts.Sort.{Sort}
 use Rattle.fault_mean.specs.Scope.{Scope, Standing, Local, locals_as, scope_after, standing_in, standing_inside}
 use Rattle.fault_mean.specs.Scope.{with_locals}
 use Rattle.file_scope.specs.declared.scope.Local as rust

@@ -1,6 +1,6 @@
 -- The first fault that is found as a file is judged, part by part.
 use Rattle.std.specs.Prelude.{◌≡◌, ℕ, List, map, Option, Some, None, option_map}
-use Rattle.layer_ast.specs.declared.names.At.{At}
+use Rattle.layer_words.specs.declared.places.At.{At}
 use Rattle.fault_mean.specs.Earliest.{earlier, earliest, key_at}
 use Rattle.file_scope.specs.declared.found.Fault.{Fault}
 use Rattle.file_scope.specs.declared.found.Found.{Found}
@@ -20,7 +20,7 @@ Finds old faults new =
     (new.moved ≡ old.moved)
     × (new.first ≡ earlier fault_key old.first (earliest fault_key (map (moved_to old.moved) faults)))
 
--- The same of faults of any type, each shown as its place and rank.
+-- What is found once these faults of any type, each shown as its place and rank, are judged too.
 unfoldable pub FindsBy : {F : Type 0} → (F → Fault) → Found → List F → Found → Type 0
 FindsBy shown old faults new = Finds old (map shown faults) new
 

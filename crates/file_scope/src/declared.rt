@@ -7,7 +7,8 @@ ghost use Rattle.fault_mean.specs.Declared as spec;
 ghost use Rattle.fault_mean.specs.Forms.{items_of};
 ghost use Rattle.fault_mean.specs.NameFaults.{same_word};
 
-use layer_ast::{Declaration, Item, Items, Name, Word};
+use layer_ast::{Declaration, Item, Items, Name};
+use layer_words::Word;
 
 /// Whether two words are the same.
 pub fn is_same(a: &Word, b: &Word) -> bool

@@ -9,7 +9,8 @@ ghost use Rattle.fault_mean.specs.Sorts as sorts;
 ghost use Rattle.file_scope.specs.Scope.{scope_of};
 
 use crate::scope::Scope;
-use layer_ast::{Declaration, Ending, Shape, Word};
+use layer_ast::{Declaration, Ending};
+use layer_words::{Shape, Word};
 
 /// Whether a declaration declares a cell of numbers of this shape.
 fn is_numbers(shape: Shape, d: &Declaration) -> bool
@@ -135,7 +136,7 @@ pub fn declares_param(scope: &Scope, word: &Word) -> bool
 }
 
 /// Whether a declaration declares a number.
-fn is_number(d: &Declaration) -> bool
+fn law_number(d: &Declaration) -> bool
     ensures { result ≡ sorts.is_number (declaration_tree d.now) }
 {
     is_param(d) || is_numbers(Shape::One, d)
@@ -147,6 +148,6 @@ pub fn declares_number(scope: &Scope, word: &Word) -> bool
 {
     match scope.declaration(word) {
         None => false,
-        Some(d) => is_number(d),
+        Some(d) => law_number(d),
     }
 }

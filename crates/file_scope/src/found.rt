@@ -5,7 +5,7 @@ ghost use Rattle.std.specs.Option.{option_map_or};
 ghost use Rattle.fault_mean.specs.Earliest.{precedes, unless};
 ghost use Rattle.file_scope.specs.Found.{Finds, anywhere, fault_key, first_rank, moved_to};
 
-use layer_ast::At;
+use layer_words::At;
 
 /// A fault at its place; of several at one place the one of the least rank comes first.
 #[derive(Clone, Copy, PartialEq, Eq, Debug)]

@@ -11,7 +11,8 @@ use crate::locals::add_sorted;
 use crate::names::{listed, written};
 use crate::scope::{Local, Scope};
 use crate::sorts::Sorts;
-use layer_ast::{Handler, Kind, Name, Popped, Sort};
+use layer_ast::{Handler, Name, Popped};
+use layer_words::{Kind, Sort};
 use std::alloc::{AllocError, Global};
 
 /// The sort of the message after a popped header.

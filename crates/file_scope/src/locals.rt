@@ -2,7 +2,7 @@
 
 ghost use Rattle.std.specs.Prelude.{◌≡◌, ◌++◌, [], map, OnOk, IfOk, Some, slice_index_or};
 ghost use Rattle.layer_ast.specs.View.{declaration_tree, items_tree, names_tree, queue_tree};
-ghost use Rattle.layer_ast.specs.declared.syntax.Sort.TheVariants.{Int};
+ghost use Rattle.layer_words.specs.declared.sorts.Sort.TheVariants.{Int};
 ghost use Rattle.fault_mean.specs.Declared.{items_in, names_in};
 ghost use Rattle.fault_mean.specs.Forms.{items_of, queue_name, row_of};
 ghost use Rattle.fault_mean.specs.Scope as spec;
@@ -10,7 +10,8 @@ ghost use Rattle.file_scope.specs.Scope.{locals_of, scope_of};
 
 use crate::names::written;
 use crate::scope::{Local, Scope};
-use layer_ast::{Declaration, Items, Name, Names, Queue, Sort};
+use layer_ast::{Declaration, Items, Name, Names, Queue};
+use layer_words::Sort;
 use std::alloc::{AllocError, Global};
 
 /// The sort of a place in a list; after its end are numbers.
@@ -90,7 +91,7 @@ fn item_sort(row: &Items, place: usize) -> Sort
     }
 }
 
-/// The same in the rows that a declaration declares.
+/// The sort of an item by its place in the rows that a declaration declares; after the last item are numbers.
 #[tactic(auto, using(crate::proofs::Sorted::number_there))]
 fn row_sort(d: &Declaration, place: usize) -> Sort
     ensures { result ≡ slice_index_or (map (λ i. i.sort) (items_of (declaration_tree d.now))) place Int }

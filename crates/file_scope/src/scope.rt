@@ -8,7 +8,8 @@ ghost use Rattle.layer_ast.specs.View.{declaration_tree, layer_tree};
 ghost use Rattle.file_scope.specs.Words.{own_words};
 
 use crate::words::Words;
-use layer_ast::{Declaration, Layer, Name, Sort, Word};
+use layer_ast::{Declaration, Layer, Name};
+use layer_words::{Sort, Word};
 use std::alloc::{AllocError, Global};
 
 /// A local name of a handler.

@@ -2,7 +2,7 @@
 
 ghost use Rattle.std.specs.Prelude.{◌≤◌};
 
-use layer_ast::Sort;
+use layer_words::Sort;
 
 /// The sorts of one argument or two.
 #[derive(Clone, Copy)]

@@ -7,7 +7,7 @@ ghost use Rattle.indexmap.specs.IndexMap.{get};
 ghost use Rattle.file_scope.specs.Words.{Forgets, HasTable, IsSameTable, IsTable, NotesFirst, is_at, place_of};
 
 use indexmap::IndexMap;
-use layer_ast::Word;
+use layer_words::Word;
 use std::alloc::{AllocError, Global};
 use std::hash::{Hash, Hasher};
 use std::marker::Model;

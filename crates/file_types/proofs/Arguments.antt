@@ -8,7 +8,7 @@ use Rattle.layer_ast.specs.Tree.{ArgumentTree, ItemTree}
 use Rattle.layer_ast.specs.View.{argument_tree, item_tree}
 use Rattle.layer_ast.specs.declared.syntax.Argument.{Argument}
 use Rattle.layer_ast.specs.declared.syntax.Item.{Item}
-use Rattle.layer_ast.specs.declared.syntax.Sort.{Sort}
+use Rattle.layer_words.specs.declared.sorts.Sort.{Sort}
 use Rattle.fault_mean.specs.ExpressionFaults.{argument_faults, arguments_faults}
 use Rattle.fault_mean.specs.Faults.{TypeFault}
 use Rattle.fault_mean.specs.Kinds.{a_number}

@@ -4,8 +4,8 @@ use Rattle.std.proofs.lemmas.List.Sums.{fold-append}
 use Rattle.layer_ast.specs.Tree as ast
 use Rattle.layer_ast.specs.Tree.{StatementTrees}
 use Rattle.layer_ast.specs.View.{statement_tree, trees}
-use Rattle.layer_ast.specs.declared.names.At.{At}
-use Rattle.layer_ast.specs.declared.syntax.Likely.{Likely}
+use Rattle.layer_words.specs.declared.places.At.{At}
+use Rattle.layer_words.specs.declared.sorts.Likely.{Likely}
 use Rattle.layer_ast.specs.declared.syntax.Statement.{Statement}
 use Rattle.fault_mean.specs.Declared.{names_in}
 use Rattle.fault_mean.specs.Forms.{queue_name, row_of}

@@ -9,7 +9,7 @@ use Rattle.std.proofs.lemmas.Grind.{flat_map-append}
 use Rattle.std.proofs.lemmas.Option.{slice_get-map}
 use Rattle.layer_ast.specs.Tree.{FileTree, LayerTree, PlaceTree}
 use Rattle.layer_ast.specs.View.{layer_tree, place_tree}
-use Rattle.layer_ast.specs.declared.names.At.{At}
+use Rattle.layer_words.specs.declared.places.At.{At}
 use Rattle.layer_ast.specs.declared.syntax.Layer.{Layer}
 use Rattle.layer_ast.specs.declared.syntax.Place.{Place}
 use Rattle.fault_mean.specs.Faults.{TypeFault, kind, arity, direction, header, initial, type_fault_at}

@@ -2,7 +2,7 @@
 
 ghost use Rattle.std.specs.Prelude.{◌≡◌, ◌∷◌, [], map, OnOk};
 ghost use Rattle.layer_ast.specs.View.{block_tree, statement_tree, statement_trees};
-ghost use Rattle.layer_ast.specs.declared.syntax.Sort.TheVariants.{Int};
+ghost use Rattle.layer_words.specs.declared.sorts.Sort.TheVariants.{Int};
 ghost use Rattle.fault_mean.specs.Scope as spec;
 ghost use Rattle.file_expressions.specs.Found.{Finds};
 ghost use Rattle.file_types.specs.Blocks.{block_faults, inner_faults, statement_faults};
@@ -10,7 +10,8 @@ ghost use Rattle.file_scope.specs.Scope.{local_of, locals_of, scope_after_all, s
 
 use crate::statement;
 use file_scope::{Found, Local, Scope, row_locals};
-use layer_ast::{Block, Name, Sort, Statement};
+use layer_ast::{Block, Name, Statement};
+use layer_words::Sort;
 use std::alloc::{AllocError, Global};
 
 /// The statements of a block, whose locals are visible in it alone.

@@ -6,7 +6,7 @@ ghost use Rattle.file_types.specs.Answer.{Checks};
 
 use crate::answer::judge;
 use crate::error::TypeError;
-use file_layers::numbered;
+use file_lower::numbered;
 use file_names::Resolved;
 use std::alloc::Global;
 use std::mem::forget;

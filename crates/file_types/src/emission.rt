@@ -17,7 +17,8 @@ use crate::header::{With, header, numbers};
 use crate::kinds::{argument_count, carries, pushes, second_wanted, suits};
 use file_expressions::{Cause, NUMBER, Wanted, argument, argument_sort, note_unless};
 use file_scope::{Found, Scope, declares_end};
-use layer_ast::{Argument, Arguments, At, Dir, Kind, Pushed, Sort};
+use layer_ast::{Argument, Arguments, Pushed};
+use layer_words::{At, Dir, Kind, Sort};
 
 /// What an emission sends, and from where: its place in the text, the direction and the kind of its events.
 #[derive(Clone, Copy)]

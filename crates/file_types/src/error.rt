@@ -3,7 +3,7 @@
 ghost use Rattle.std.specs.Prelude.{◌≡◌};
 ghost use Rattle.file_types.specs.declared.error.TypeError.TheVariants.{Memory};
 
-use layer_ast::At;
+use layer_words::At;
 use std::alloc::AllocError;
 use thiserror::Error;
 

@@ -14,7 +14,8 @@ ghost use Rattle.file_scope.specs.Scope.{scope_of};
 use crate::count::{Count, count_names, is_same_count};
 use file_expressions::{Cause, NUMBER, argument, note_unless};
 use file_scope::{Found, Scope, declares_header};
-use layer_ast::{Argument, Arguments, At, Declaration, Name, Word};
+use layer_ast::{Argument, Arguments, Declaration, Name};
+use layer_words::{At, Word};
 
 /// The number of fields of the header that a declaration declares.
 fn declared_fields(d: &Declaration) -> Count

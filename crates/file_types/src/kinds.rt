@@ -9,7 +9,7 @@ ghost use Rattle.file_types.specs.Counts.{count_of};
 
 use crate::count::Count;
 use file_expressions::{NUMBER, Wanted};
-use layer_ast::{Dir, Kind, Sort};
+use layer_words::{Dir, Kind, Sort};
 
 /// Whether the events of a kind carry a message.
 pub fn carries(kind: Kind) -> bool

@@ -15,7 +15,8 @@ ghost use Rattle.file_scope.specs.Scope.{scope_of};
 use crate::count::{Count, is_same_count};
 use file_expressions::{Cause, Wanted, argument, note_unless, queue};
 use file_scope::{Found, Scope};
-use layer_ast::{Argument, Arguments, At, Declaration, Item, Items, Queue};
+use layer_ast::{Argument, Arguments, Declaration, Item, Items, Queue};
+use layer_words::At;
 
 /// The number of items of the rows that a declaration declares.
 #[tactic(auto, using(crate::proofs::Counts::trees_count))]

@@ -4,7 +4,7 @@ ghost use Rattle.std.specs.Prelude.{◌≡◌, ◌++◌, ◌∷◌, [], length, 
 ghost use Rattle.layer_ast.specs.Tree as tree;
 ghost use Rattle.layer_ast.specs.View.{arguments_tree, expression_tree, names_tree, queue_tree, size_tree};
 ghost use Rattle.layer_ast.specs.View.{statement_tree};
-ghost use Rattle.layer_ast.specs.declared.syntax.Shape.TheVariants.{One, Array, Square};
+ghost use Rattle.layer_words.specs.declared.sorts.Shape.TheVariants.{One, Array, Square};
 ghost use Rattle.fault_mean.specs.Declared.{names_in};
 ghost use Rattle.fault_mean.specs.ExpressionFaults.{arguments_faults, number_faults};
 ghost use Rattle.fault_mean.specs.Sorts as sorts;
@@ -18,7 +18,8 @@ use crate::emission::{Sending, emission};
 use crate::rows::{row, row_arguments};
 use file_expressions::{Cause, expression, note_unless, size_at};
 use file_scope::{Found, Scope, declares_numbers, declares_param};
-use layer_ast::{Arguments, At, Expression, Name, Names, Queue, Shape, Size, Statement};
+use layer_ast::{Arguments, Expression, Name, Names, Queue, Size, Statement};
+use layer_words::{At, Shape};
 
 /// A size is a number or a param; the place is that of a fault.
 #[tactic(auto, using(file_scope::proofs::Finds::finds_none))]

@@ -9,15 +9,16 @@ use Rattle.std.specs.Char.{is_ascii_alphabetic, is_ascii_digit}
 use Rattle.std.specs.Int.{is_in_range}
 use Rattle.std.specs.List.{list_all, prefix_len, starts_with}
 use Rattle.std.specs.Option.{option_map_or}
-use Rattle.layer_ast.specs.declared.names.At.{At}
+use Rattle.layer_words.specs.declared.places.At.{At}
 use Rattle.layer_ast.specs.declared.tokens.Lexed.{Lexed}
-use Rattle.layer_ast.specs.declared.tokens.Sign.{Sign}
-use Rattle.layer_ast.specs.declared.tokens.Sign.TheVariants as sign
+use Rattle.layer_words.specs.declared.signs.Sign.{Sign}
+use Rattle.layer_words.specs.declared.signs.Sign.TheVariants as sign
 use Rattle.layer_ast.specs.declared.tokens.Token.{Token}
 use Rattle.layer_ast.specs.declared.tokens.Token.TheVariants as token
 use Rattle.layer_ast.specs.Cut.{Piece as Cut, gap, one, bad, Tokens, is_numeral, piece, word_piece, number_piece}
 use Rattle.layer_ast.specs.Cut.{symbol_piece, with_piece, cut_from, text_tokens, place_after}
-use Rattle.layer_ast.specs.Spelling.{is_blank, is_word_byte, word_token, number_of, symbols, symbol_at}
+use Rattle.layer_words.specs.Spelling.{is_blank, is_word_byte, symbols}
+use Rattle.layer_ast.specs.Cut.{word_token, number_of, symbol_at}
 use Rattle.format_mean.specs.Laws.{unless_bad, good_tokens}
 use Rattle.format_mean.specs.Layout.{formatted}
 use Rattle.format_mean.specs.Pieces.{Piece, feed, blank, whole, one_more, comment_length, doubles, sign_length}

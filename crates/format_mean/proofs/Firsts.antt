@@ -3,7 +3,7 @@ use Rattle.std.proofs.Common.{◌≡◌, ℕ, Bool, true, false, not, ◌&&◌, 
 use Rattle.std.proofs.Common.{subst, ◌∙◌, eqb-true, true≢false}
 use Rattle.std.specs.Prelude.{codes}
 use Rattle.std.specs.Str.{bytes_eq}
-use Rattle.layer_ast.specs.Spelling.{is_word_byte}
+use Rattle.layer_words.specs.Spelling.{is_word_byte}
 use Rattle.format_mean.specs.declared.stand.Class.{Class}
 use Rattle.format_mean.specs.declared.stand.Class.TheVariants as class
 use Rattle.format_mean.specs.Classes.{is_one_of, declaring, going, queueing, apart, word_class, sign_class, class_of}

@@ -3,7 +3,7 @@ use Rattle.std.proofs.Common.{◌≡◌, ℕ, zero, suc, ◌+◌, ◌≤◌, Boo
 use Rattle.std.proofs.Common.{◌++◌, length, take, replicate, refl, sym, ap, subst, ◌∙◌, arith}
 use Rattle.std.proofs.Math.Seq.{take-append_seam}
 use Rattle.std.specs.List.{AllByRecursion, prefix_len}
-use Rattle.layer_ast.specs.Spelling.{is_blank, is_word_byte}
+use Rattle.layer_words.specs.Spelling.{is_blank, is_word_byte}
 use Rattle.format_mean.specs.Pieces.{Piece, feed, blank, whole, one_more, comment_length, doubles, sign_length}
 use Rattle.format_mean.specs.Pieces.{length_after, front, more_feeds, with_front, pieces_from}
 

@@ -2,7 +2,7 @@
 use Rattle.std.specs.Prelude.{ℕ, Bool, true, false, ◌||◌, nat_eq, if◌then◌else◌, List, [], ◌∷◌, codes}
 use Rattle.std.specs.List.{list_any}
 use Rattle.std.specs.Str.{bytes_eq}
-use Rattle.layer_ast.specs.Spelling.{is_word_byte}
+use Rattle.layer_words.specs.Spelling.{is_word_byte}
 use Rattle.format_mean.specs.declared.stand.Class.{Class}
 use Rattle.format_mean.specs.declared.stand.Class.TheVariants as class
 
@@ -52,6 +52,7 @@ sign_class b =
     else if nat_eq b 44 || (nat_eq b 41 || (nat_eq b 93 || nat_eq b 58)) then class.Tight
     else class.Apart
 
+-- the class of a token or comment, by its spelling
 abbrev pub class_of : List ℕ → Class
 class_of [] = class.Apart
 class_of (b ∷ bs) = if is_word_byte b then word_class (b ∷ bs) else sign_class b

@@ -1,6 +1,6 @@
 -- What laying out keeps.
 use Rattle.std.specs.Prelude.{◌≡◌, ℕ, List, map, Option, Some, None}
-use Rattle.layer_ast.specs.declared.names.At.{At}
+use Rattle.layer_words.specs.declared.places.At.{At}
 use Rattle.layer_ast.specs.declared.tokens.Lexed.{Lexed}
 use Rattle.layer_ast.specs.declared.tokens.Token.{Token}
 use Rattle.layer_ast.specs.Cut.{Tokens, text_tokens}
@@ -12,6 +12,7 @@ abbrev pub unless_bad : List Lexed → Option At → Option (List Token)
 unless_bad tokens None = Some (map (λ l. l.token) tokens)
 unless_bad tokens (Some at) = None
 
+-- the tokens of a text without their places, or none where there is a bad one
 abbrev pub good_tokens : Tokens → Option (List Token)
 good_tokens t = unless_bad t.tokens t.bad_at
 

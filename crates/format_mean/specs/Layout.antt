@@ -57,6 +57,7 @@ depth_of s _ = s.depth
 abbrev pub indentation : Stand → Class → ℕ
 indentation s c = STEP * depth_of s c + (if ends_statement s.last || is_brace c then 0 else HANG)
 
+-- a number, or 1 where it is 0
 abbrev pub at_least_one : ℕ → ℕ
 at_least_one zero = 1
 at_least_one (suc n) = suc n
@@ -71,6 +72,7 @@ pub record Begun : Type 0 where
   pub stand : Stand
   pub line : List ℕ
 
+-- whether a line has no bytes yet
 abbrev pub is_bare : List ℕ → Bool
 is_bare [] = true
 is_bare (_ ∷ _) = false
@@ -80,6 +82,7 @@ is_bare (_ ∷ _) = false
 abbrev pub feeds_of : (bare : Bool) → Stand → Class → ℕ → ℕ
 feeds_of bare s c feeds = if bare then 0 else if begins_line s c then at_least_one feeds else feeds
 
+-- how many line feeds are put before a piece
 abbrev pub feeds_before : Begun → Piece → ℕ
 feeds_before t p = feeds_of (is_bare t.line) t.stand (class_of p.spelling) p.feeds
 
@@ -87,11 +90,12 @@ feeds_before t p = feeds_of (is_bare t.line) t.stand (class_of p.spelling) p.fee
 abbrev pub blanks_before : Stand → List ℕ → Class → ℕ
 blanks_before s line c = if is_bare line then indentation s c else blanks_apart s (length line) c
 
--- the line that line feeds end, and what is left of it then
+-- the line that so many line feeds end, if there are any
 abbrev pub line_at_feeds : List ℕ → ℕ → List (List ℕ)
 line_at_feeds line zero = []
 line_at_feeds line (suc n) = (line ++ replicate (suc n) 10) ∷ []
 
+-- what a line still has after so many line feeds: all of it without one, and nothing after any
 abbrev pub left_of : List ℕ → ℕ → List ℕ
 left_of line zero = line
 left_of line (suc n) = []
@@ -102,10 +106,11 @@ put_after s line spelling =
     let c = class_of spelling in
     record { stand = following s c; line = line ++ replicate (blanks_before s line c) 32 ++ spelling }
 
--- the line that a piece ends, and the one that it goes on with or begins
+-- the line that is ended before a piece, if one is
 abbrev pub lines_at : Begun → Piece → List (List ℕ)
 lines_at t p = line_at_feeds t.line (feeds_before t p)
 
+-- the line with a piece in it: the one that has begun, or a new one after line feeds
 abbrev pub begun_at : Begun → Piece → Begun
 begun_at t p = put_after t.stand (left_of t.line (feeds_before t p)) p.spelling
 
@@ -123,9 +128,10 @@ lines_from t (p ∷ ps) = lines_at t p ++ lines_from (begun_at t p) ps
 abbrev pub beginning : Begun
 beginning = record { stand = record { depth = 0; in_layer = false; last = class.Semicolon }; line = [] }
 
--- a text laid out, line by line, and as a whole
+-- a text laid out, line by line, each with the line feeds that end it
 abbrev pub formatted_lines : List ℕ → List (List ℕ)
 formatted_lines text = lines_from beginning (pieces text)
 
+-- a text laid out, as a whole
 abbrev pub formatted : List ℕ → List ℕ
 formatted text = concat (formatted_lines text)

@@ -1,5 +1,6 @@
 pub mod Classes
 pub mod Laws
 pub mod Layout
+pub mod Library
 pub mod Pieces
 pub mod Samples

@@ -2,7 +2,7 @@
 use Rattle.std.specs.Prelude.{ℕ, zero, suc, Bool, true, false, ◌&&◌, ◌||◌, nat_eq, if◌then◌else◌, List, [], ◌∷◌, map}
 use Rattle.std.specs.Prelude.{take}
 use Rattle.std.specs.List.{prefix_len}
-use Rattle.layer_ast.specs.Spelling.{is_blank, is_word_byte}
+use Rattle.layer_words.specs.Spelling.{is_blank, is_word_byte}
 
 -- a token or a comment as it is spelled, and how many line feeds stand before it: two, where there are more
 pub record Piece : Type 0 where
@@ -42,6 +42,7 @@ length_after b bs =
     else if is_word_byte b then prefix_len is_word_byte bs
     else sign_length b bs
 
+-- what a text begins with, by its first byte and those after it
 abbrev pub front : ℕ → List ℕ → Front
 front b bs = if nat_eq b 10 then feed else if is_blank b then blank else whole (length_after b bs)
 

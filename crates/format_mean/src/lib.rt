@@ -3,6 +3,7 @@
 #![tactic(auto)]
 
 ghost use Rattle.format_mean.specs.Laws.{KeepsTokens, KeepsMarks, IsStable};
+ghost use Rattle.format_mean.specs.Library.{LibraryStays};
 ghost use Rattle.format_mean.specs.Samples.{ParesLines, PartsStatements, LaysStack};
 
 mod stand;
@@ -37,4 +38,9 @@ pub fn parts_statements()
 /// A stack in one line stays so.
 pub fn lays_stack()
     ensures { LaysStack }
+{}
+
+/// Laying out changes none of the library's texts.
+pub fn library_stays()
+    ensures { LibraryStays }
 {}

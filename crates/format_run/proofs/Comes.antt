@@ -4,16 +4,16 @@ use Rattle.std.proofs.lemmas.Bool.{le-ltb}
 use Rattle.std.specs.Prelude.{◌≤◌, Result, Ok, Err}
 use Rattle.std.specs.declared.alloc.Global.{Global}
 use Rattle.std.specs.declared.vec.Vec.{Vec}
-use Rattle.layer_ast.specs.declared.names.At.{At}
+use Rattle.layer_words.specs.declared.places.At.{At}
 use Rattle.layer_ast.specs.Cut.{text_tokens}
 use Rattle.layer_ast.specs.Spells.{longest_file}
 use Rattle.outside.specs.Shelf.{Shelved}
-use Rattle.format_run.specs.declared.ending.Ending.{Ending}
-use Rattle.format_run.specs.declared.ending.Ending.TheVariants as ending
+use Rattle.format_run.specs.declared.ending.LayoutEnding.{LayoutEnding}
+use Rattle.format_run.specs.declared.ending.LayoutEnding.TheVariants as ending
 use Rattle.format_run.specs.Ends.{Around, ComesOf, Fetches, Finds, IsGood, Judges, StopsAt, Writes, by_token, verdict}
 
 -- what was written of a file that was found
-pub written : (name file text : List ℕ) (a : Around) (end : Ending) → text ≡ file →
+pub written : (name file text : List ℕ) (a : Around) (end : LayoutEnding) → text ≡ file →
     IsGood name a.told a.reads a.reads_after file →
     Writes text a.output a.output_after end → ComesOf name a end
 written name file text a ending.Done is good wrote =
@@ -33,7 +33,7 @@ written name file text a (ending.BadToken at) is good wrote = absurd wrote
 written name file text a ending.Read is good wrote = absurd wrote
 
 -- a run that stopped at its read
-pub stops : (name : List ℕ) (a : Around) (end : Ending) → StopsAt name a.told a.reads a.reads_after end →
+pub stops : (name : List ℕ) (a : Around) (end : LayoutEnding) → StopsAt name a.told a.reads a.reads_after end →
     a.output_after ≡ a.output → ComesOf name a end
 stops name a ending.Done stopped same = absurd stopped
 stops name a ending.Write stopped same = absurd stopped
@@ -53,7 +53,7 @@ judged file bad small is =
 -- what was judged was read
 pub fetched : (name : List ℕ) (told : Option Shelved) (reads reads_after : ℕ) (file : List ℕ) →
     Finds name told (Some file) → reads_after ≡ reads →
-    length file ≤ longest_file → (r : Result (Vec ℕ Global) Ending) → Judges file r →
+    length file ≤ longest_file → (r : Result (Vec ℕ Global) LayoutEnding) → Judges file r →
     Fetches name told reads reads_after r
 fetched name told reads reads_after file found sound small (Ok text) h =
     subst (IsGood name told reads reads_after) (sym h.0)

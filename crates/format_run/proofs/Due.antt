@@ -9,8 +9,8 @@ use Rattle.outside.specs.Lines.{Gains}
 use Rattle.outside.specs.Said.{Errors, SaysLine, whole, failed, no_memory as wanted}
 use Rattle.outside.specs.Shelf.{Shelved, found_in}
 use Rattle.format_mean.specs.Layout.{formatted_lines}
-use Rattle.format_run.specs.declared.ending.Ending.{Ending}
-use Rattle.format_run.specs.declared.ending.Ending.TheVariants as ending
+use Rattle.format_run.specs.declared.ending.LayoutEnding.{LayoutEnding}
+use Rattle.format_run.specs.declared.ending.LayoutEnding.TheVariants as ending
 use Rattle.format_run.specs.Ends.{Around, name_of, by_token, verdict, end_for, Finds, Comes, ComesOf, Said, status_of}
 use Rattle.format_run.specs.Ends.{Due, NoPutFailed, IsExact, Does}
 
@@ -20,7 +20,7 @@ line_said line n e (whole gained is) = inl is
 line_said line n e (failed fails is) = inl is
 line_said line n e (wanted begun is) = inr is
 
-pub status_said : (end : Ending) (e : Errors) → Said end e → Due (status_of end) e.status
+pub status_said : (end : LayoutEnding) (e : Errors) → Said end e → Due (status_of end) e.status
 status_said ending.Done e s = inl s.status
 status_said ending.Words e s = line_said _ 2 e s
 status_said ending.TooLarge e s = line_said _ 1 e s
@@ -46,7 +46,7 @@ large_is (Some file) large = ap (λ t. cond t ending.TooLarge (by_token (text_to
 
 module _ (name : List ℕ) (a : Around) (shelf : Shelved) (told : a.told ≡ Some shelf) (sound : NoPutFailed a) where
   -- the end is the one that is called for, or memory ran out
-  ends_as : (end : Ending) → ComesOf name a end → (end_for (found_in shelf name) ≡ end) ⊎ (end ≡ ending.Memory)
+  ends_as : (end : LayoutEnding) → ComesOf name a end → (end_for (found_in shelf name) ≡ end) ⊎ (end ≡ ending.Memory)
   ends_as ending.Done c = inl (ap end_for (found_is name a.told shelf (Some c.file) told c.found.found) ∙ c.found.good)
   ends_as ending.Words c = absurd c.stopped
   ends_as ending.TooLarge c =
@@ -59,7 +59,7 @@ module _ (name : List ℕ) (a : Around) (shelf : Shelved) (told : a.told ≡ Som
   ends_as ending.Write c = absurd (sound c.written.rose)
   ends_as ending.Memory c = inr refl
 
-  is_due : (end : Ending) (e : Errors) → ComesOf name a end → Said end e →
+  is_due : (end : LayoutEnding) (e : Errors) → ComesOf name a end → Said end e →
       Due (status_of (end_for (found_in shelf name))) e.status
   is_due end e c s =
       ⊎_elim (λ is. subst (λ n. Due n e.status) (sym (ap status_of is)) (status_said end e s))
@@ -69,13 +69,13 @@ module _ (name : List ℕ) (a : Around) (shelf : Shelved) (told : a.told ≡ Som
   one_text f g is = cc
 
   is_whole : (file : List ℕ) → found_in shelf name ≡ Some file → verdict file ≡ ending.Done →
-      (end : Ending) (e : Errors) →
+      (end : LayoutEnding) (e : Errors) →
       ComesOf name a end → Said end e → Gains a.output a.output_after (formatted_lines file) ⊎ (e.status ≡ 7)
   is_whole file found good end e c s =
       ⊎_elim (λ is. inl (done end c (sym is ∙ (ap end_for found ∙ good))))
       (λ is. inr (seven e (subst (λ end. Said end e) is s))) (ends_as end c)
     where
-      done : (end : Ending) → ComesOf name a end → end ≡ ending.Done →
+      done : (end : LayoutEnding) → ComesOf name a end → end ≡ ending.Done →
           Gains a.output a.output_after (formatted_lines file)
       done ending.Done c is =
           let same : c.file ≡ file =
@@ -88,7 +88,7 @@ module _ (name : List ℕ) (a : Around) (shelf : Shelved) (told : a.told ≡ Som
       done ending.Write c is = absurd (cc is)
       done ending.Memory c is = absurd (cc is)
 
-exact : (name : Option (List ℕ)) (a : Around) (end : Ending) (e : Errors) → Comes name a end → Said end e →
+exact : (name : Option (List ℕ)) (a : Around) (end : LayoutEnding) (e : Errors) → Comes name a end → Said end e →
     IsExact name a e.status
 exact None a ending.Done e c s = absurd c
 exact None a ending.Words e c s = status_said ending.Words e s
@@ -102,6 +102,6 @@ exact (Some name) a end e c s = record {
   complete = λ shelf file told found good sound. is_whole name a shelf told sound file found good end e c s;
 }
 
-pub does : (words : List (List ℕ)) (a : Around) (end : Ending) (e : Errors) → Comes (name_of words) a end → Said end e →
-    Does words a e
+pub does : (words : List (List ℕ)) (a : Around) (end : LayoutEnding) (e : Errors) → Comes (name_of words) a end →
+    Said end e → Does words a e
 does words a end e c s = record { end = end; came = c; said = s; exact = exact (name_of words) a end e c s }

@@ -4,15 +4,15 @@ use Rattle.outside.proofs.Appended.{appends_keeps}
 use Rattle.outside.specs.Said.{Errors, errors}
 use Rattle.outside.specs.Shelf.{Shelved}
 use Rattle.format_mean.specs.Layout.{formatted}
-use Rattle.format_run.specs.declared.ending.Ending.{Ending}
-use Rattle.format_run.specs.declared.ending.Ending.TheVariants as ending
+use Rattle.format_run.specs.declared.ending.LayoutEnding.{LayoutEnding}
+use Rattle.format_run.specs.declared.ending.LayoutEnding.TheVariants as ending
 use Rattle.format_run.specs.Ends.{Comes, Said}
 use Rattle.format_run.specs.Through.{RunsThrough, surrounding, end_after_delivery, Delivers}
 use Rattle.program_streams.specs.Streams.{Stream, HandsOn}
 use Rattle.format_run.proofs.Due.{status_said}
 
 -- an end that was said with status 0 is a whole text
-zero_done : (end : Ending) (e : Errors) → Said end e → e.status ≡ 0 → end ≡ ending.Done
+zero_done : (end : LayoutEnding) (e : Errors) → Said end e → e.status ≡ 0 → end ≡ ending.Done
 zero_done ending.Done e s is = refl
 zero_done ending.Words e s is =
     absurd (⊎_elim (λ due. omega (arith, due, is)) (λ due. omega (arith, due, is)) (status_said ending.Words e s))
@@ -29,7 +29,7 @@ zero_done ending.Memory e s is =
     absurd (⊎_elim (λ due. omega (arith, due, is)) (λ due. omega (arith, due, is)) (status_said ending.Memory e s))
 
 -- a text that is whole after the delivery was so before it, and the stream got all
-got_all : (whole : Bool) (end : Ending) → end_after_delivery whole end ≡ ending.Done →
+got_all : (whole : Bool) (end : LayoutEnding) → end_after_delivery whole end ≡ ending.Done →
     (whole ≡ true) × (end ≡ ending.Done)
 got_all true ending.Done is = (refl, refl)
 got_all false ending.Done is = absurd (cc is)

@@ -6,13 +6,13 @@ use Rattle.outside.specs.Shelf.{Shelved}
 use Rattle.outside.specs.Tells.{Tells}
 use Rattle.program_streams.specs.Streams.{HandsOn, Stream}
 use Rattle.format_mean.specs.Layout.{formatted}
-use Rattle.format_run.specs.declared.ending.Ending.{Ending}
-use Rattle.format_run.specs.declared.ending.Ending.TheVariants as ending
+use Rattle.format_run.specs.declared.ending.LayoutEnding.{LayoutEnding}
+use Rattle.format_run.specs.declared.ending.LayoutEnding.TheVariants as ending
 use Rattle.format_run.specs.Ends.{Around, IsGood, Comes, Said}
 
 -- How a run ended, by whether the output's stream got all that was put: a whole text that it lacks is a fault of
 -- writing.
-abbrev pub end_after_delivery : Bool → Ending → Ending
+abbrev pub end_after_delivery : Bool → LayoutEnding → LayoutEnding
 end_after_delivery false ending.Done = ending.Write
 end_after_delivery whole end = end
 
@@ -30,7 +30,7 @@ surrounding told reads reads_after output output_after = record {
 pub record RunsThrough (name : Option (List ℕ)) (told : Option Shelved) (reads reads_after : ℕ) (out err : Stream)
     (status : ℕ) : Type 0 where
   pub put : Tells
-  pub end : Ending
+  pub end : LayoutEnding
   pub came : Comes name (surrounding told reads reads_after out.before put) end
   pub whole : Bool
   pub handed_on : HandsOn put out.after out.holds whole

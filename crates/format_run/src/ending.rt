@@ -4,16 +4,16 @@ ghost use Rattle.std.specs.String.{string_bytes};
 ghost use Rattle.outside.specs.Said.{errors};
 ghost use Rattle.outside.specs.Tells.{tells_of};
 ghost use Rattle.format_run.specs.Causes.{unread, unwritten};
-ghost use Rattle.format_run.specs.declared.ending.Ending.TheVariants as ending;
+ghost use Rattle.format_run.specs.declared.ending.LayoutEnding.TheVariants as ending;
 ghost use Rattle.format_run.specs.Ends.{Said, token_line};
 
-use layer_ast::At;
-use outside::{ShelfError, Sink, SinkError, say_line};
+use layer_words::At;
+use outside::{NO_MEMORY, ShelfError, Sink, SinkError, say_line};
 use std::alloc::{AllocError, Global};
 
 /// How a run ended.
 #[derive(Clone, Copy, Debug, PartialEq, Eq)]
-pub enum Ending {
+pub enum LayoutEnding {
     /// The file was laid out, and all of it written.
     Done,
     /// The words name no file.
@@ -30,32 +30,32 @@ pub enum Ending {
     Memory,
 }
 
-impl From<AllocError> for Ending {
+impl From<AllocError> for LayoutEnding {
     ghost from_gives = { λ _ end. end ≡ ending.Memory };
 
-    fn from(_: AllocError) -> Ending {
-        Ending::Memory
+    fn from(_: AllocError) -> LayoutEnding {
+        LayoutEnding::Memory
     }
 }
 
-impl From<ShelfError> for Ending {
+impl From<ShelfError> for LayoutEnding {
     ghost from_gives = { λ cause end. end ≡ unread cause };
 
-    fn from(cause: ShelfError) -> Ending {
+    fn from(cause: ShelfError) -> LayoutEnding {
         match cause {
-            ShelfError::Failed => Ending::Read,
-            ShelfError::Memory => Ending::Memory,
+            ShelfError::Failed => LayoutEnding::Read,
+            ShelfError::Memory => LayoutEnding::Memory,
         }
     }
 }
 
-impl From<SinkError> for Ending {
+impl From<SinkError> for LayoutEnding {
     ghost from_gives = { λ cause end. end ≡ unwritten cause };
 
-    fn from(cause: SinkError) -> Ending {
+    fn from(cause: SinkError) -> LayoutEnding {
         match cause {
-            SinkError::Failed => Ending::Write,
-            SinkError::Memory => Ending::Memory,
+            SinkError::Failed => LayoutEnding::Write,
+            SinkError::Memory => LayoutEnding::Memory,
         }
     }
 }
@@ -63,27 +63,24 @@ impl From<SinkError> for Ending {
 /// The status where a file is refused.
 const FILE_REFUSED: u8 = 1;
 
-/// The status where memory ran out.
-pub const NO_MEMORY: u8 = 7;
-
 /// Says how a run ended, and answers the program's status.
-pub(crate) fn say<E: Sink>(alloc: Global, ending: Ending, err: &mut E) -> u8
+pub(crate) fn say<E: Sink>(alloc: Global, ending: LayoutEnding, err: &mut E) -> u8
     ensures { Said ending (errors (tells_of E.Sink err.old) (tells_of E.Sink err.new) result) }
 {
     match ending {
-        Ending::Done => 0,
-        Ending::Words => say_line(b"words: refused\n", 2, err),
-        Ending::TooLarge => say_line(b"file: too large\n", FILE_REFUSED, err),
-        Ending::BadToken(at) => say_token(alloc, at, err),
-        Ending::Read => say_line(b"read fault\n", 4, err),
-        Ending::Write => say_line(b"write fault\n", 5, err),
-        Ending::Memory => say_line(b"no memory\n", NO_MEMORY, err),
+        LayoutEnding::Done => 0,
+        LayoutEnding::Words => say_line(b"words: refused\n", 2, err),
+        LayoutEnding::TooLarge => say_line(b"file: too large\n", FILE_REFUSED, err),
+        LayoutEnding::BadToken(at) => say_token(alloc, at, err),
+        LayoutEnding::Read => say_line(b"read fault\n", 4, err),
+        LayoutEnding::Write => say_line(b"write fault\n", 5, err),
+        LayoutEnding::Memory => say_line(b"no memory\n", NO_MEMORY, err),
     }
 }
 
 /// Says where the first bad token stands.
 fn say_token<E: Sink>(alloc: Global, at: At, err: &mut E) -> u8
-    ensures { Said (Ending.BadToken at) (errors (tells_of E.Sink err.old) (tells_of E.Sink err.new) result) }
+    ensures { Said (LayoutEnding.BadToken at) (errors (tells_of E.Sink err.old) (tells_of E.Sink err.new) result) }
 {
     match token_line(alloc, at) {
         Ok(line) => say_line(line.as_bytes(), FILE_REFUSED, err),

@@ -9,6 +9,6 @@ mod ending;
 mod over_sinks;
 mod over_streams;
 
-pub use ending::{Ending, NO_MEMORY};
+pub use ending::LayoutEnding;
 pub use over_sinks::run;
 pub use over_streams::{program, run_through};

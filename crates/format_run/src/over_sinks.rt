@@ -6,10 +6,11 @@ ghost use Rattle.outside.specs.Said.{errors};
 ghost use Rattle.outside.specs.Tells.{tells_of};
 ghost use Rattle.format_run.specs.Ends as spec;
 
-use crate::ending::{Ending, say};
-use file_format::lay_out;
+use crate::ending::{LayoutEnding, say};
 use file_lex::cut;
-use layer_ast::{At, LONGEST_FILE};
+use format_layout::lay_out;
+use layer_ast::LONGEST_FILE;
+use layer_words::At;
 use outside::{Got, Shelf, Sink};
 use std::alloc::{AllocError, Global};
 
@@ -40,13 +41,13 @@ pub(crate) fn perform<S: Shelf, O: Sink>(
     words: &[String],
     shelf: &mut S,
     out: &mut O,
-) -> Ending
+) -> LayoutEnding
     ensures { spec.Comes (spec.name_of (map string_bytes words.now))
         (spec.around S.Shelf O.Sink shelf.old shelf.new out.old out.new) result }
 {
     match name_of(words) {
         Some(name) => format_file(alloc, name, shelf, out),
-        None => Ending::Words,
+        None => LayoutEnding::Words,
     }
 }
 
@@ -72,7 +73,12 @@ fn no_option(word: &str) -> Option<&str>
 }
 
 /// Lays out the file of a name.
-fn format_file<S: Shelf, O: Sink>(alloc: Global, name: &str, shelf: &mut S, out: &mut O) -> Ending
+fn format_file<S: Shelf, O: Sink>(
+    alloc: Global,
+    name: &str,
+    shelf: &mut S,
+    out: &mut O,
+) -> LayoutEnding
     ensures { spec.ComesOf name.now (spec.around S.Shelf O.Sink shelf.old shelf.new out.old out.new) result }
 {
     match fetch(alloc, name, shelf) {
@@ -82,34 +88,34 @@ fn format_file<S: Shelf, O: Sink>(alloc: Global, name: &str, shelf: &mut S, out:
 }
 
 /// Lays out a text on `out`, and answers how the run ended.
-fn put_text<O: Sink>(alloc: Global, text: &[u8], out: &mut O) -> Ending
+fn put_text<O: Sink>(alloc: Global, text: &[u8], out: &mut O) -> LayoutEnding
     ensures { spec.Writes text.now (tells_of O.Sink out.old) (tells_of O.Sink out.new) result }
 {
     match lay_out(alloc, text, out) {
-        Ok(()) => Ending::Done,
-        Err(cause) => Ending::from(cause),
+        Ok(()) => LayoutEnding::Done,
+        Err(cause) => LayoutEnding::from(cause),
     }
 }
 
 /// Reads a file that can be laid out, or answers how the run ends.
-fn fetch<S: Shelf>(alloc: Global, name: &str, shelf: &mut S) -> Result<Vec<u8>, Ending>
+fn fetch<S: Shelf>(alloc: Global, name: &str, shelf: &mut S) -> Result<Vec<u8>, LayoutEnding>
     ensures { spec.Fetches name.now (S.told shelf.old) (S.faults shelf.old) (S.faults shelf.new) result }
 {
     let mut text = Vec::new(alloc);
     match shelf.read(name, &mut text, u64::from(LONGEST_FILE))? {
         Got::Whole => judged(alloc, text),
-        Got::TooLong => Err(Ending::TooLarge),
+        Got::TooLong => Err(LayoutEnding::TooLarge),
     }
 }
 
 /// The text itself, if it has no bad token.
-fn judged(alloc: Global, text: Vec<u8>) -> Result<Vec<u8>, Ending>
+fn judged(alloc: Global, text: Vec<u8>) -> Result<Vec<u8>, LayoutEnding>
     requires { spec.IsSmall text.items }
     ensures { spec.Judges text.items result }
 {
     match bad_token(alloc, &text)? {
         None => Ok(text),
-        Some(at) => Err(Ending::BadToken(at)),
+        Some(at) => Err(LayoutEnding::BadToken(at)),
     }
 }
 

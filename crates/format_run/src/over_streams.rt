@@ -5,9 +5,9 @@ ghost use Rattle.format_run.specs.Ends.{name_of};
 ghost use Rattle.format_run.specs.Through.{RunsThrough, Delivers, end_after_delivery};
 ghost use Rattle.program_streams.specs.Streams.{over};
 
-use crate::ending::{Ending, NO_MEMORY, say};
+use crate::ending::{LayoutEnding, say};
 use crate::over_sinks::perform;
-use outside::{FileShelf, Shelf, Sink, StdSink};
+use outside::{FileShelf, NO_MEMORY, Shelf, Sink, StdSink};
 use program_streams::{begin, hand_on};
 use std::alloc::Global;
 use std::io::Write;
@@ -42,11 +42,11 @@ pub fn run_through<S: Shelf, O: Write + Drop, E: Write + Drop>(
 
 /// How a run ended, by whether the output's stream got all that was put: a whole text that it lacks is a fault of
 /// writing.
-fn end_after_delivery(whole: bool, ending: Ending) -> Ending
+fn end_after_delivery(whole: bool, ending: LayoutEnding) -> LayoutEnding
     ensures { result ≡ end_after_delivery whole ending }
 {
     match ending {
-        Ending::Done if !whole => Ending::Write,
+        LayoutEnding::Done if !whole => LayoutEnding::Write,
         ending => ending,
     }
 }
@@ -61,6 +61,6 @@ pub fn program<R: AllocGlobal + Env + Files, O: Write + Drop, E: Write + Drop>(
     let Ok((words, mut out, mut err)) = begin(system, out, err) else {
         return NO_MEMORY;
     };
-    let mut shelf = FileShelf::of(system);
+    let mut shelf = FileShelf::new(system);
     run_through(system.alloc(), &words, &mut shelf, &mut out, &mut err)
 }

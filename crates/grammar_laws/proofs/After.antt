@@ -1,29 +1,31 @@
 -- Where printed tokens k go on to l, a part of a layer before k goes on to it before l.
 use Rattle.std.proofs.Common.{◌≡◌, ℕ, zero, suc, List, [], ◌∷◌, ◌++◌, Option, Some, None, refl, sym, subst}
 use Rattle.layer_ast.specs.declared.names.Name.{Name}
-use Rattle.layer_ast.specs.declared.tokens.Dir.{Dir}
-use Rattle.layer_ast.specs.declared.tokens.Dir.TheVariants.{Up, Down}
+use Rattle.layer_words.specs.declared.events.Dir.{Dir}
+use Rattle.layer_words.specs.declared.events.Dir.TheVariants.{Up, Down}
 use Rattle.layer_ast.specs.declared.tokens.Lexed.{Lexed}
-use Rattle.layer_ast.specs.declared.tokens.Sign.TheVariants as sign
+use Rattle.layer_words.specs.declared.signs.Sign.TheVariants as sign
 use Rattle.layer_ast.specs.declared.tokens.Token.TheVariants as token
 use Rattle.layer_ast.specs.declared.syntax.Ending.{Ending}
 use Rattle.layer_ast.specs.declared.syntax.Ending.TheVariants.{Passes, Ends}
-use Rattle.layer_ast.specs.declared.syntax.Function.{Function}
-use Rattle.layer_ast.specs.declared.syntax.Function.TheVariants.{Not, Bit, Count, Lowest}
-use Rattle.layer_ast.specs.declared.syntax.Likely.{Likely}
-use Rattle.layer_ast.specs.declared.syntax.Likely.TheVariants as likely_word
-use Rattle.layer_ast.specs.declared.syntax.Operator.{Operator}
-use Rattle.layer_ast.specs.declared.syntax.Operator.TheVariants.{Add, Subtract, Multiply, Equal, NotEqual, Less}
-use Rattle.layer_ast.specs.declared.syntax.Operator.TheVariants.{LessOrEqual, Greater, GreaterOrEqual, And, Or, BitAnd}
-use Rattle.layer_ast.specs.declared.syntax.Operator.TheVariants.{BitOr, BitXor}
-use Rattle.layer_ast.specs.declared.syntax.Shape.{Shape}
-use Rattle.layer_ast.specs.declared.syntax.Shape.TheVariants.{One, Array, Square}
-use Rattle.layer_ast.specs.declared.syntax.Sort.{Sort}
-use Rattle.layer_ast.specs.declared.syntax.Sort.TheVariants.{Int, Msg, Part}
+use Rattle.layer_words.specs.declared.operators.Function.{Function}
+use Rattle.layer_words.specs.declared.operators.Function.TheVariants.{Not, Bit, Count, Lowest}
+use Rattle.layer_words.specs.declared.sorts.Likely.{Likely}
+use Rattle.layer_words.specs.declared.sorts.Likely.TheVariants as likely_word
+use Rattle.layer_words.specs.declared.operators.Operator.{Operator}
+use Rattle.layer_words.specs.declared.operators.Operator.TheVariants.{Add, Subtract, Multiply, Equal, NotEqual, Less}
+use Rattle.layer_words.specs.declared.operators.Operator.TheVariants.{LessOrEqual, Greater, GreaterOrEqual, And, Or}
+use Rattle.layer_words.specs.declared.operators.Operator.TheVariants.{BitAnd}
+use Rattle.layer_words.specs.declared.operators.Operator.TheVariants.{BitOr, BitXor}
+use Rattle.layer_words.specs.declared.sorts.Shape.{Shape}
+use Rattle.layer_words.specs.declared.sorts.Shape.TheVariants.{One, Array, Square}
+use Rattle.layer_words.specs.declared.sorts.Sort.{Sort}
+use Rattle.layer_words.specs.declared.sorts.Sort.TheVariants.{Int, Msg, Part}
 use Rattle.layer_ast.specs.Depth.{room_inside, room_after, WithRoom, IsWithin}
 use Rattle.layer_ast.specs.Print as print
-use Rattle.layer_ast.specs.Printed.{Printed, plain, name, kind, direction_sign, ending_sign, sort_sign, function_sign}
-use Rattle.layer_ast.specs.Printed.{operator_sign}
+use Rattle.layer_ast.specs.Printed.{Printed, plain, name, kind, ending_sign}
+use Rattle.layer_words.specs.Signs.{direction_sign, sort_sign, function_sign}
+use Rattle.layer_words.specs.Signs.{operator_sign}
 use Rattle.layer_ast.specs.Spells.{Fits}
 use Rattle.layer_ast.specs.Tree.{ExpressionTree, number, me, members, ltime, named, element, square, rows, item, size}
 use Rattle.layer_ast.specs.Tree.{binary, apply, pick, QueueTree, queue, queue_at, MessageTree, bare, built, BuiltTree}

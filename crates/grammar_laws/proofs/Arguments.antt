@@ -2,7 +2,7 @@
 -- same, and what follows them goes together too.
 use Rattle.std.proofs.Common.{◌≡◌, List, [], ◌∷◌, Option, Some, None, refl, ap}
 use Rattle.layer_ast.specs.declared.names.Name.{Name}
-use Rattle.layer_ast.specs.declared.tokens.Sign.TheVariants as sign
+use Rattle.layer_words.specs.declared.signs.Sign.TheVariants as sign
 use Rattle.layer_ast.specs.Print as print
 use Rattle.layer_ast.specs.Printed.{Printed, plain}
 use Rattle.layer_ast.specs.Tree.{ExpressionTree, BuiltTree, ArgumentTree, value, content, NamesTree, ArgumentsTree}

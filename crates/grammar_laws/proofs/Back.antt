@@ -2,32 +2,33 @@
 use Rattle.std.proofs.Common.{◌≡◌, Bool, true, false, if◌then◌else◌, List, [], ◌∷◌, Option, Some, None, IfSome, refl}
 use Rattle.std.proofs.Common.{sym, ap}
 use denote.Enum.Bare.{same_true}
-use Rattle.layer_ast.specs.contracts.tokens.Sign.{the_type}
-use Rattle.layer_ast.specs.declared.names.At.{At}
+use Rattle.layer_words.specs.contracts.signs.Sign.{the_type}
+use Rattle.layer_words.specs.declared.places.At.{At}
 use Rattle.layer_ast.specs.declared.names.Name.{Name}
-use Rattle.layer_ast.specs.declared.tokens.Dir.{Dir}
-use Rattle.layer_ast.specs.declared.tokens.Dir.TheVariants.{Up, Down}
-use Rattle.layer_ast.specs.declared.tokens.Sign.{Sign}
-use Rattle.layer_ast.specs.declared.tokens.Sign.TheVariants as sign
+use Rattle.layer_words.specs.declared.events.Dir.{Dir}
+use Rattle.layer_words.specs.declared.events.Dir.TheVariants.{Up, Down}
+use Rattle.layer_words.specs.declared.signs.Sign.{Sign}
+use Rattle.layer_words.specs.declared.signs.Sign.TheVariants as sign
 use Rattle.layer_ast.specs.declared.tokens.Token.{Token}
 use Rattle.layer_ast.specs.declared.tokens.Token.TheVariants as token
 use Rattle.layer_ast.specs.declared.syntax.Ending.TheVariants as ending
-use Rattle.layer_ast.specs.declared.syntax.Function.{Function}
-use Rattle.layer_ast.specs.declared.syntax.Function.TheVariants as function
-use Rattle.layer_ast.specs.declared.syntax.Likely.{Likely}
-use Rattle.layer_ast.specs.declared.syntax.Likely.TheVariants as likely_word
-use Rattle.layer_ast.specs.declared.syntax.Operator.TheVariants as operator
-use Rattle.layer_ast.specs.declared.syntax.Shape.{Shape}
-use Rattle.layer_ast.specs.declared.syntax.Shape.TheVariants as shape_of
-use Rattle.layer_ast.specs.declared.syntax.Sort.TheVariants as sort
+use Rattle.layer_words.specs.declared.operators.Function.{Function}
+use Rattle.layer_words.specs.declared.operators.Function.TheVariants as function
+use Rattle.layer_words.specs.declared.sorts.Likely.{Likely}
+use Rattle.layer_words.specs.declared.sorts.Likely.TheVariants as likely_word
+use Rattle.layer_words.specs.declared.operators.Operator.TheVariants as operator
+use Rattle.layer_words.specs.declared.sorts.Shape.{Shape}
+use Rattle.layer_words.specs.declared.sorts.Shape.TheVariants as shape_of
+use Rattle.layer_words.specs.declared.sorts.Sort.TheVariants as sort
 use Rattle.layer_ast.specs.Tree.{ExpressionTree, number, me, members, ltime, named, element, square, rows, item, size}
 use Rattle.layer_ast.specs.Tree.{binary, apply, pick, QueueTree, queue, queue_at, bare, built, nothing, held, cut, tail}
 use Rattle.layer_ast.specs.Tree.{join, value, content, SizeTree, fixed, sized, StatementTree, bind, set, set_square}
 use Rattle.layer_ast.specs.Tree.{push, take, when, choose, each, emit, StatementTrees, none, more, always, common, rare}
 use Rattle.layer_ast.specs.Tree.{ItemsTree, DeclarationTree, param, int, rows_cell, rows_array, header}
 use Rattle.layer_ast.specs.Print as print
-use Rattle.layer_ast.specs.Printed.{Printed, plain, placed_sign, numeral, plain_numeral, name, kind, direction_sign}
-use Rattle.layer_ast.specs.Printed.{function_sign}
+use Rattle.layer_ast.specs.Printed.{Printed, plain, placed_sign, numeral, plain_numeral, name, kind}
+use Rattle.layer_words.specs.Signs.{direction_sign}
+use Rattle.layer_words.specs.Signs.{function_sign}
 use Rattle.grammar_laws.specs.Machine.{Symbol, one, a_name, a_number, a_kind, a_size, a_sort, an_ending, an_operator}
 use Rattle.grammar_laws.specs.Machine.{an_expression, an_index, a_message, a_built, an_argument, more_arguments}
 use Rattle.grammar_laws.specs.Machine.{some_arguments, a_pushed, a_likely, an_otherwise, a_statement, statements}

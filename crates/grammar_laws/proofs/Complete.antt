@@ -1,25 +1,26 @@
 -- The machine takes what the printer writes.
 use Rattle.std.proofs.Common.{◌≡◌, ◌≢◌, Bool, true, false, List, [], ◌∷◌, ◌++◌, map, Option, Some, None, refl, ap, ◌∙◌}
 use Rattle.layer_ast.specs.declared.names.Name.{Name}
-use Rattle.layer_ast.specs.declared.tokens.Dir.{Dir}
-use Rattle.layer_ast.specs.declared.tokens.Dir.TheVariants.{Up, Down}
-use Rattle.layer_ast.specs.declared.tokens.Sign.TheVariants as sign
+use Rattle.layer_words.specs.declared.events.Dir.{Dir}
+use Rattle.layer_words.specs.declared.events.Dir.TheVariants.{Up, Down}
+use Rattle.layer_words.specs.declared.signs.Sign.TheVariants as sign
 use Rattle.layer_ast.specs.declared.tokens.Token.{Token}
 use Rattle.layer_ast.specs.declared.tokens.Token.TheVariants as token
 use Rattle.layer_ast.specs.declared.syntax.Ending.{Ending}
 use Rattle.layer_ast.specs.declared.syntax.Ending.TheVariants.{Passes, Ends}
-use Rattle.layer_ast.specs.declared.syntax.Function.{Function}
-use Rattle.layer_ast.specs.declared.syntax.Function.TheVariants.{Not, Bit, Count, Lowest}
-use Rattle.layer_ast.specs.declared.syntax.Likely.{Likely}
-use Rattle.layer_ast.specs.declared.syntax.Likely.TheVariants as likely_word
-use Rattle.layer_ast.specs.declared.syntax.Operator.{Operator}
-use Rattle.layer_ast.specs.declared.syntax.Operator.TheVariants.{Add, Subtract, Multiply, Equal, NotEqual, Less}
-use Rattle.layer_ast.specs.declared.syntax.Operator.TheVariants.{LessOrEqual, Greater, GreaterOrEqual, And, Or, BitAnd}
-use Rattle.layer_ast.specs.declared.syntax.Operator.TheVariants.{BitOr, BitXor}
-use Rattle.layer_ast.specs.declared.syntax.Shape.{Shape}
-use Rattle.layer_ast.specs.declared.syntax.Shape.TheVariants.{One, Array, Square}
-use Rattle.layer_ast.specs.declared.syntax.Sort.{Sort}
-use Rattle.layer_ast.specs.declared.syntax.Sort.TheVariants.{Int, Msg, Part}
+use Rattle.layer_words.specs.declared.operators.Function.{Function}
+use Rattle.layer_words.specs.declared.operators.Function.TheVariants.{Not, Bit, Count, Lowest}
+use Rattle.layer_words.specs.declared.sorts.Likely.{Likely}
+use Rattle.layer_words.specs.declared.sorts.Likely.TheVariants as likely_word
+use Rattle.layer_words.specs.declared.operators.Operator.{Operator}
+use Rattle.layer_words.specs.declared.operators.Operator.TheVariants.{Add, Subtract, Multiply, Equal, NotEqual, Less}
+use Rattle.layer_words.specs.declared.operators.Operator.TheVariants.{LessOrEqual, Greater, GreaterOrEqual, And, Or}
+use Rattle.layer_words.specs.declared.operators.Operator.TheVariants.{BitAnd}
+use Rattle.layer_words.specs.declared.operators.Operator.TheVariants.{BitOr, BitXor}
+use Rattle.layer_words.specs.declared.sorts.Shape.{Shape}
+use Rattle.layer_words.specs.declared.sorts.Shape.TheVariants.{One, Array, Square}
+use Rattle.layer_words.specs.declared.sorts.Sort.{Sort}
+use Rattle.layer_words.specs.declared.sorts.Sort.TheVariants.{Int, Msg, Part}
 use Rattle.layer_ast.specs.Tree.{ExpressionTree, number, me, members, ltime, named, element, square, rows, item, size}
 use Rattle.layer_ast.specs.Tree.{binary, apply, pick, QueueTree, queue, queue_at, MessageTree, bare, built, BuiltTree}
 use Rattle.layer_ast.specs.Tree.{nothing, held, cut, tail, join, ArgumentTree, value, content, NamesTree, ArgumentsTree}
@@ -28,8 +29,9 @@ use Rattle.layer_ast.specs.Tree.{push, take, when, choose, each, emit, Statement
 use Rattle.layer_ast.specs.Tree.{common, rare, HandlerTree, ItemTree, ItemsTree, DeclarationTree, param, int, rows_cell}
 use Rattle.layer_ast.specs.Tree.{rows_array, header, LayerTree, GivenTree, PlaceTree, FileTree}
 use Rattle.layer_ast.specs.Print as print
-use Rattle.layer_ast.specs.Printed.{Printed, plain, name, kind, direction_sign, ending_sign, sort_sign, function_sign}
-use Rattle.layer_ast.specs.Printed.{operator_sign}
+use Rattle.layer_ast.specs.Printed.{Printed, plain, name, kind, ending_sign}
+use Rattle.layer_words.specs.Signs.{direction_sign, sort_sign, function_sign}
+use Rattle.layer_words.specs.Signs.{operator_sign}
 use Rattle.layer_ast.specs.Spells.{HasPlace}
 use Rattle.grammar_laws.specs.Machine.{Symbol, one, a_name, a_size, a_sort, an_ending, an_operator, an_expression}
 use Rattle.grammar_laws.specs.Machine.{an_index, a_message, a_built, an_argument, more_arguments, some_arguments}

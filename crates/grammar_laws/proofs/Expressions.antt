@@ -1,9 +1,10 @@
 -- Expressions, queues and messages whose tokens go together are the same, and what follows them goes together too.
 use Rattle.std.proofs.Common.{◌≡◌, List, ◌∷◌, sym, ap, subst}
 use Rattle.layer_ast.specs.declared.names.Name.{Name}
-use Rattle.layer_ast.specs.declared.tokens.Sign.TheVariants as sign
+use Rattle.layer_words.specs.declared.signs.Sign.TheVariants as sign
 use Rattle.layer_ast.specs.Print as print
-use Rattle.layer_ast.specs.Printed.{Printed, plain, name, operator_sign}
+use Rattle.layer_ast.specs.Printed.{Printed, plain, name}
+use Rattle.layer_words.specs.Signs.{operator_sign}
 use Rattle.layer_ast.specs.Tree.{ExpressionTree, number, me, members, ltime, named, element, square, rows, item, size}
 use Rattle.layer_ast.specs.Tree.{binary, apply, pick, QueueTree, queue, queue_at, MessageTree, bare, built, BuiltTree}
 use Rattle.layer_ast.specs.Tree.{nothing, held, cut, tail, join}

@@ -1,6 +1,6 @@
 -- Layers and places whose tokens go together are the same; so are files.
 use Rattle.std.proofs.Common.{◌≡◌, List, [], ◌∷◌, refl}
-use Rattle.layer_ast.specs.declared.tokens.Sign.TheVariants as sign
+use Rattle.layer_words.specs.declared.signs.Sign.TheVariants as sign
 use Rattle.layer_ast.specs.Print as print
 use Rattle.layer_ast.specs.Printed.{Printed, plain}
 use Rattle.layer_ast.specs.Tree.{LayerTree, GivenTree, PlaceTree, FileTree}

@@ -2,29 +2,30 @@
 -- has none.
 use Rattle.std.proofs.Common.{◌≡◌, ℕ, Bool, true, false, ◌&&◌, List, [], ◌∷◌, ◌++◌, Option, None, codes, refl, sym}
 use Rattle.std.proofs.Common.{true≢false}
-use Rattle.layer_ast.specs.declared.names.At.{At}
+use Rattle.layer_words.specs.declared.places.At.{At}
 use Rattle.layer_ast.specs.declared.names.Name.{Name}
-use Rattle.layer_ast.specs.declared.tokens.Dir.TheVariants.{Up}
-use Rattle.layer_ast.specs.declared.tokens.Kind.{Kind}
-use Rattle.layer_ast.specs.declared.tokens.Kind.TheVariants.{Cast}
-use Rattle.layer_ast.specs.declared.tokens.Sign.TheVariants as sign
+use Rattle.layer_words.specs.declared.events.Dir.TheVariants.{Up}
+use Rattle.layer_words.specs.declared.events.Kind.{Kind}
+use Rattle.layer_words.specs.declared.events.Kind.TheVariants.{Cast}
+use Rattle.layer_words.specs.declared.signs.Sign.TheVariants as sign
 use Rattle.layer_ast.specs.declared.syntax.Ending.{Ending}
 use Rattle.layer_ast.specs.declared.syntax.Ending.TheVariants.{Passes}
-use Rattle.layer_ast.specs.declared.syntax.Likely.{Likely}
-use Rattle.layer_ast.specs.declared.syntax.Likely.TheVariants as likely_word
-use Rattle.layer_ast.specs.declared.syntax.Operator.{Operator}
-use Rattle.layer_ast.specs.declared.syntax.Operator.TheVariants.{Add}
-use Rattle.layer_ast.specs.declared.syntax.Shape.{Shape}
-use Rattle.layer_ast.specs.declared.syntax.Shape.TheVariants as shape_of
-use Rattle.layer_ast.specs.declared.syntax.Sort.{Sort}
-use Rattle.layer_ast.specs.declared.syntax.Sort.TheVariants as sort
+use Rattle.layer_words.specs.declared.sorts.Likely.{Likely}
+use Rattle.layer_words.specs.declared.sorts.Likely.TheVariants as likely_word
+use Rattle.layer_words.specs.declared.operators.Operator.{Operator}
+use Rattle.layer_words.specs.declared.operators.Operator.TheVariants.{Add}
+use Rattle.layer_words.specs.declared.sorts.Shape.{Shape}
+use Rattle.layer_words.specs.declared.sorts.Shape.TheVariants as shape_of
+use Rattle.layer_words.specs.declared.sorts.Sort.{Sort}
+use Rattle.layer_words.specs.declared.sorts.Sort.TheVariants as sort
 use Rattle.layer_ast.specs.Tree.{ExpressionTree, number, MessageTree, bare, BuiltTree, nothing, ArgumentTree, value}
 use Rattle.layer_ast.specs.Tree.{NamesTree, ArgumentsTree, PoppedTree, PushedTree, SizeTree, fixed, StatementTree, bind}
 use Rattle.layer_ast.specs.Tree.{StatementTrees, none, Expected, always, HandlerTree, ItemTree, DeclarationTree, param}
 use Rattle.layer_ast.specs.Tree.{int, LayerTree, GivenTree, PlaceTree}
 use Rattle.layer_ast.specs.Print as print
-use Rattle.layer_ast.specs.Printed.{Printed, plain, placed_sign, plain_numeral, name, kind, ending_sign, sort_sign}
-use Rattle.layer_ast.specs.Printed.{operator_sign}
+use Rattle.layer_ast.specs.Printed.{Printed, plain, placed_sign, plain_numeral, name, kind, ending_sign}
+use Rattle.layer_words.specs.Signs.{sort_sign}
+use Rattle.layer_words.specs.Signs.{operator_sign}
 use Rattle.grammar_laws.specs.Machine.{Symbol, one, a_name, a_number, a_kind, a_size, a_sort, an_ending, an_operator}
 use Rattle.grammar_laws.specs.Machine.{an_expression, an_index, a_message, a_built, an_argument, more_arguments}
 use Rattle.grammar_laws.specs.Machine.{some_arguments, a_pushed, a_likely, an_otherwise, a_statement, statements}
@@ -103,7 +104,7 @@ split [] stack p h = (p, refl, h)
 split (s ∷ new) stack p (l, here, h) = let (k, chain, following) = split new stack l h in
     (k, (l, here, chain), following)
 
--- the same of symbols before others
+-- the symbols before others, and these others
 pub chain_split : (new following : List Symbol) (p k : List Printed) → Chain (new ++ following) p k →
     (l : List Printed) × Chain new p l × Chain following l k
 chain_split [] following p k h = (p, refl, h)

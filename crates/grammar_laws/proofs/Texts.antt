@@ -2,7 +2,7 @@
 use Rattle.std.proofs.Common.{◌≡◌, ℕ, zero, suc, ◌+◌, ◌<◌, List, [], ◌∷◌, ◌++◌, length, take, drop, slice_get, Option}
 use Rattle.std.proofs.Common.{Some, None, true, refl, sym, ap, subst, ◌∙◌, arith, append_assoc, append-nil}
 use Rattle.std.proofs.lemmas.List.{take-append-drop, take-take}
-use Rattle.layer_ast.specs.declared.names.At.{At}
+use Rattle.layer_words.specs.declared.places.At.{At}
 use Rattle.layer_ast.specs.declared.tokens.Lexed.{Lexed}
 use Rattle.layer_ast.specs.declared.tokens.Token.{Token}
 use Rattle.layer_ast.specs.Cut.{text_tokens}

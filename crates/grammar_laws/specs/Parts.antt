@@ -1,6 +1,6 @@
 -- The printed tokens of parts of the grammar that are read by themselves and are no trees of their own.
 use Rattle.std.specs.Prelude.{List, ◌∷◌, Bool, true, false, Option, Some, None}
-use Rattle.layer_ast.specs.declared.tokens.Sign.TheVariants as sign
+use Rattle.layer_words.specs.declared.signs.Sign.TheVariants as sign
 use Rattle.layer_ast.specs.Print as print
 use Rattle.layer_ast.specs.Printed.{Printed, plain}
 use Rattle.layer_ast.specs.Tree.{SizeTree, StatementTrees}

@@ -1,6 +1,6 @@
 -- What a text is: a file, or where and why it stops being the beginning of one.
 use Rattle.std.specs.Prelude.{◌≡◌, ℕ, List}
-use Rattle.layer_ast.specs.declared.names.At.{At}
+use Rattle.layer_words.specs.declared.places.At.{At}
 use Rattle.layer_ast.specs.Spells.{Spells}
 use Rattle.layer_ast.specs.Stops.{StopsBad, StopsInside, StopsAtEnd}
 use Rattle.layer_ast.specs.Tree.{FileTree}

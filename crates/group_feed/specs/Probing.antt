@@ -6,7 +6,7 @@ use Rattle.stack_mean.specs.Plan.{Plan}
 use Rattle.run_mean.specs.Common.{is_common}
 use Rattle.run_mean.specs.Member.{Step}
 use Rattle.run_mean.specs.World.{Did, taken, Happening}
-use Rattle.miss_mean.specs.Text.{missed_in}
+use Rattle.lack_mean.specs.Lacks.{missed_in}
 use Rattle.step_misses.specs.Misses.{miss_meant}
 use Rattle.step_misses.specs.declared.miss.Miss.{Miss}
 use Rattle.step_misses.specs.declared.miss.Probed.{Probed}

@@ -26,13 +26,16 @@ pub record NodeWords : Type 0 where
   pub patience : ℕ
   pub mode : Mode
 
+-- The words of a node that makes so many turns with these own members, bears so many failed receives, and runs in this
+-- mode.
 abbrev pub node_words : ℕ → List ℕ → ℕ → Mode → NodeWords
 node_words turns me patience mode = record { turns = turns; me = me; patience = patience; mode = mode }
 
--- The notes of a node, and the moments of its journal: a list of script events, whatever the surroundings told.
+-- The notes of a node: what its members took and what they couldn't hear, whatever the surroundings told.
 abbrev pub node_notes : NodePlan → NodeWords → Surroundings → List Note
 node_notes plan words s = notes_of plan words.me words.turns words.patience s.clock s.heard
 
+-- The moments of a node's journal, which is a list of script events.
 abbrev pub node_moments : List LayerTree → NodePlan → NodeWords → Surroundings → List Moment
 node_moments stack plan words s = node_run stack (plans_of stack) plan (node_notes plan words s)
 
@@ -40,10 +43,11 @@ node_moments stack plan words s = node_run stack (plans_of stack) plan (node_not
 abbrev pub handed_by : List LayerTree → NodePlan → NodeWords → Surroundings → List Handed
 handed_by stack plan words s = handed_datagrams words.mode stack (plans_of stack) (node_moments stack plan words s)
 
--- How many receives failed.
+-- Whether a receive failed.
 abbrev pub is_failure : Heard → Bool
 is_failure failure = true
 is_failure _ = false
 
+-- How many receives failed.
 abbrev pub failures : List Heard → ℕ
 failures heard = count_by is_failure heard

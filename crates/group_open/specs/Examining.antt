@@ -5,12 +5,12 @@ use Rattle.run_mean.specs.Mode.{bypass}
 use Rattle.layer_mean.specs.Tree.{LayerTree}
 use Rattle.stack_mean.specs.Acceptance.{rows_of, most_rows}
 use Rattle.stack_mean.specs.Plans.{plans_of}
-use Rattle.event_graph.specs.Answer.{stack_tree}
+use Rattle.stack_judge.specs.Answer.{stack_tree}
 use Rattle.stack_shapes.specs.Trees.{plans_tree}
 use Rattle.stack_shapes.specs.Shapes.{short_shapes}
 use Rattle.group_mean.specs.Room.{HasRoom}
-use Rattle.bypass_member.specs.declared.error.OpenError.{OpenError}
-use Rattle.bypass_member.specs.declared.error.OpenError.TheVariants.{TooLarge, Memory}
+use Rattle.group_member.specs.declared.error.OpenError.{OpenError}
+use Rattle.group_member.specs.declared.error.OpenError.TheVariants.{TooLarge, Memory}
 use Rattle.group_feed.specs.Beginning.{IsAtFirst}
 use Rattle.group_open.specs.declared.run.Examination.{Examination}
 

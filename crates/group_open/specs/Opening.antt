@@ -1,26 +1,26 @@
 -- What opening a group yields.
 use Rattle.std.specs.Prelude.{◌≡◌, ℕ, ◌<◌, List, Option, option_map, Result, Ok, Err}
 use Rattle.std.specs.Rc.{rc_value}
-use Rattle.bypass_codes.specs.Codes.{CodesTree}
+use Rattle.code_table.specs.Codes.{CodesTree}
 use Rattle.bypass_laws.specs.Making.{IsSound}
-use Rattle.bypass_member.specs.Modes.{mode_with}
-use Rattle.bypass_member.specs.Serving.{AreCodes, AreCodesOf}
+use Rattle.group_member.specs.Modes.{mode_with}
+use Rattle.group_member.specs.Serving.{AreCodes, AreCodesOf}
 use Rattle.chain_laws.specs.Runs.{TypedStack}
 use Rattle.run_mean.specs.Mode.{Mode, layered, bypass}
 use Rattle.layer_mean.specs.Tree.{LayerTree}
 use Rattle.stack_mean.specs.Acceptance.{rows_of, largest_weight, most_rows}
 use Rattle.stack_mean.specs.Plans.{plans_of}
-use Rattle.event_graph.specs.Answer.{stack_tree}
+use Rattle.stack_judge.specs.Answer.{stack_tree}
 use Rattle.stack_shapes.specs.Trees.{plans_tree}
 use Rattle.stack_shapes.specs.Shapes.{short_shapes}
 use Rattle.stack_shapes.specs.Starts.{starts_of, starts_tree}
-use Rattle.file_layer.specs.Making.{making}
+use Rattle.live_layer.specs.Making.{making}
 use Rattle.miss_laws.specs.Asked.{AllAsked}
 use Rattle.miss_laws.specs.Told.{AreChecksOf}
 use Rattle.group_mean.specs.Room.{HasRoom}
 use Rattle.group_feed.specs.Beginning.{IsAtFirst}
-use Rattle.bypass_member.specs.declared.error.OpenError.{OpenError}
-use Rattle.bypass_member.specs.declared.error.OpenError.TheVariants.{TooLarge, Memory}
+use Rattle.group_member.specs.declared.error.OpenError.{OpenError}
+use Rattle.group_member.specs.declared.error.OpenError.TheVariants.{TooLarge, Memory}
 use Rattle.group_open.specs.declared.run.Opened.{Opened}
 use Rattle.group_open.specs.declared.run.Drawn.{Drawn}
 use Rattle.group_open.specs.declared.run.Parts.{Parts}

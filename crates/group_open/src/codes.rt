@@ -4,11 +4,11 @@
 ghost use Rattle.std.specs.Prelude.{◌≡◌, IfOk};
 ghost use Rattle.std.specs.Option.{option_map};
 ghost use Rattle.std.specs.Rc.{rc_value};
-ghost use Rattle.bypass_codes.specs.Codes.{codes_of};
+ghost use Rattle.code_table.specs.Codes.{codes_of};
 ghost use Rattle.bypass_laws.specs.Making.{IsSound};
 ghost use Rattle.bypass_laws.specs.Stack.{AreOfStack};
-ghost use Rattle.bypass_member.specs.Serving.{AreCodesOf};
-ghost use Rattle.event_graph.specs.Answer.{stack_tree};
+ghost use Rattle.group_member.specs.Serving.{AreCodesOf};
+ghost use Rattle.stack_judge.specs.Answer.{stack_tree};
 ghost use Rattle.group_mean.specs.Shown.{shown_mode};
 ghost use Rattle.miss_laws.specs.Asked.{all_asked};
 ghost use Rattle.stack_mean.specs.Plans.{plans_of};
@@ -17,10 +17,10 @@ ghost use Rattle.stack_shapes.specs.Trees.{plans_tree};
 ghost use Rattle.trace_core.specs.Bypasses.{bypasses_tree};
 ghost use Rattle.group_open.specs.Opening.{AreExamining, CanRun, CodesFor};
 
-use bypass_codes::Codes;
-use event_graph::Stack;
+use code_table::Codes;
 use group_mean::Mode;
-use stack_checks::StackChecks;
+use guard_checks::StackChecks;
+use stack_judge::Stack;
 use stack_shapes::StackShapes;
 use std::alloc::{AllocError, Global};
 use std::rc::Rc;
@@ -35,7 +35,7 @@ fn code_of(alloc: Global, bypasses: &Bypasses) -> Result<Rc<Codes>, AllocError>
     Ok(Rc::new(alloc, codes)?)
 }
 
-/// The same of bypasses that are a stack's.
+/// The code of bypasses that are a stack's, for members to share.
 pub(crate) fn given_code(
     alloc: Global,
     bypasses: &Bypasses,
@@ -58,7 +58,7 @@ fn stack_code(alloc: Global, stack: &Stack, shapes: &StackShapes) -> Result<Rc<C
     given_code(alloc, &bypasses, stack)
 }
 
-/// The same if members run by bypasses, and else none.
+/// The code of the bypasses that are made of a stack if members run by bypasses, and else none.
 pub(crate) fn codes_for(
     alloc: Global,
     mode: Mode,
@@ -89,7 +89,7 @@ fn code_and_checks(
     Ok((codes, checks))
 }
 
-/// The same of the bypasses that are made of a stack.
+/// The code of the bypasses that are made of a stack, and their checks.
 pub(crate) fn examining_codes(
     alloc: Global,
     stack: &Stack,

@@ -2,18 +2,18 @@
 
 ghost use Rattle.std.specs.Prelude.{◌≤◌};
 ghost use Rattle.bypass_laws.specs.Making.{IsSound};
-ghost use Rattle.event_graph.specs.Answer.{stack_tree};
+ghost use Rattle.stack_judge.specs.Answer.{stack_tree};
 ghost use Rattle.group_open.specs.Examining.{OpensExamined};
 ghost use Rattle.msg_core.specs.View.{most_members};
 
 use crate::opening::begin;
 use crate::preparing::prepare_examined;
 use crate::run::{Examination, Opened};
-use bypass_member::OpenError;
-use event_graph::Stack;
+use group_member::OpenError;
+use group_world::Examined;
 use script_mean::GroupLine;
+use stack_judge::Stack;
 use std::alloc::Global;
-use world_core::Examined;
 
 /// Opens the group that the first line of a script tells of, over a stack: its members run by the stack's bypasses, and
 /// are examined by the checks of these.

@@ -4,9 +4,9 @@ ghost use Rattle.std.specs.Prelude.{◌≤◌};
 ghost use Rattle.std.specs.Option.{option_map};
 ghost use Rattle.std.specs.Rc.{rc_value};
 ghost use Rattle.bypass_laws.specs.Stack.{AreOfStack};
-ghost use Rattle.bypass_member.specs.Modes.{mode_with};
+ghost use Rattle.group_member.specs.Modes.{mode_with};
 ghost use Rattle.chain_laws.specs.Runs.{TypedStack};
-ghost use Rattle.event_graph.specs.Answer.{stack_tree};
+ghost use Rattle.stack_judge.specs.Answer.{stack_tree};
 ghost use Rattle.group_mean.specs.Shown.{shown_mode};
 ghost use Rattle.group_open.specs.Opening.{CanRun, IsPrepared, Opens};
 ghost use Rattle.msg_core.specs.View.{most_members};
@@ -15,13 +15,13 @@ ghost use Rattle.trace_core.specs.Bypasses.{bypasses_tree};
 
 use crate::preparing::{prepare, prepare_with};
 use crate::run::{Opened, Parts};
-use bypass_member::{OpenError, Opening};
-use event_graph::Stack;
 use group_mean::Mode;
+use group_member::{OpenError, Opening};
+use group_world::World;
 use script_mean::GroupLine;
+use stack_judge::Stack;
 use std::alloc::Global;
 use trace_core::Bypasses;
-use world_core::World;
 
 /// Opens the group that a first line tells of, of these parts.
 pub(crate) fn begin(alloc: Global, parts: Parts, line: GroupLine) -> Result<Opened, OpenError>

@@ -5,7 +5,7 @@ ghost use Rattle.std.specs.Option.{option_map};
 ghost use Rattle.std.specs.Rc.{rc_value};
 ghost use Rattle.bypass_laws.specs.Making.{IsSound};
 ghost use Rattle.bypass_laws.specs.Stack.{AreOfStack};
-ghost use Rattle.event_graph.specs.Answer.{stack_tree};
+ghost use Rattle.stack_judge.specs.Answer.{stack_tree};
 ghost use Rattle.group_mean.specs.Shown.{shown_mode};
 ghost use Rattle.run_mean.specs.Mode.{bypass};
 ghost use Rattle.trace_core.specs.Bypasses.{bypasses_tree};
@@ -13,13 +13,13 @@ ghost use Rattle.group_open.specs.Opening.{ArePartsOf, CanRun, IsDrawn, IsExamin
 
 use crate::codes::{codes_for, examining_codes, given_code};
 use crate::run::{Drawn, Parts};
-use bypass_codes::Codes;
-use event_graph::Stack;
-use file_layer::Maker;
+use code_table::Codes;
 use group_mean::Mode;
+use guard_checks::StackChecks;
+use live_layer::Maker;
 use msg_core::Memory;
 use report_lines::NamedStack;
-use stack_checks::StackChecks;
+use stack_judge::Stack;
 use stack_shapes::StackShapes;
 use std::alloc::Global;
 use std::rc::Rc;
@@ -54,7 +54,7 @@ fn parts_of(alloc: Global, drawn: Drawn, codes: Option<Rc<Codes>>) -> Result<Par
         starts,
         entries,
     } = shapes;
-    let outputs = Outputs::fresh(alloc, stack.stack())?;
+    let outputs = Outputs::new(alloc, stack.stack())?;
     Ok(Parts {
         maker,
         stack,

@@ -1,13 +1,10 @@
 //! Whether members have room.
 
 ghost use Rattle.std.specs.Prelude.{◌≡◌, nat_le};
-ghost use Rattle.event_graph.specs.Answer.{stack_tree};
+ghost use Rattle.stack_judge.specs.Answer.{stack_tree};
 ghost use Rattle.stack_mean.specs.Acceptance.{most_rows, rows_of};
 
-use event_graph::Stack;
-
-/// The most rows with messages that a member's layers may keep.
-const MOST_ROWS: u32 = 8192;
+use stack_judge::{MOST_ROWS, Stack};
 
 /// Whether each member of a view of this many may keep `MOST_ROWS` rows with messages at most; if not, no such group is
 /// opened.

@@ -1,12 +1,12 @@
 //! Groups that begin, and what they are made of.
 
-use bypass_codes::Codes;
-use file_layer::Maker;
+use code_table::Codes;
+use group_world::{Examined, World};
+use live_layer::Maker;
 use report_lines::NamedStack;
 use stack_shapes::{EntryShapes, PlanStarts, Plans, StackShapes};
 use std::rc::Rc;
 use step_outputs::Outputs;
-use world_core::{Examined, World};
 
 /// A stack with its plans and the shapes of its entries, and a maker of its layers.
 #[derive(Drop)]
@@ -39,7 +39,8 @@ pub struct Opened {
     pub group: World,
 }
 
-/// The same of a group that is examined.
+/// A group that begins and is examined, with the stack that it is over, its plans, the shapes of its entries, and room
+/// for the outputs of a step.
 pub struct Examination {
     pub stack: NamedStack,
     pub plans: Rc<Plans>,

@@ -7,8 +7,8 @@ use Rattle.std.specs.Prelude.{if◌then◌else◌, nat_le, Option, Some, None}
 use Rattle.std.specs.List.{list_all}
 use Rattle.std.specs.Option.{option_map_or}
 use denote.Enum.Bare.{sameb, same_true}
-use Rattle.layer_ast.specs.contracts.syntax.Operator as operator_row
-use Rattle.layer_ast.specs.contracts.syntax.Function as function_row
+use Rattle.layer_words.specs.contracts.operators.Operator as operator_row
+use Rattle.layer_words.specs.contracts.operators.Function as function_row
 use Rattle.msg_core.specs.Chain.{Content}
 use Rattle.msg_core.specs.Parts as parts
 use Rattle.msg_core.specs.Parts.{longest_body}

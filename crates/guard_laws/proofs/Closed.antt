@@ -4,8 +4,8 @@ use Rattle.std.proofs.Common.{◌++◌, map, length, slice_index_or, Option, Som
 use Rattle.std.proofs.lemmas.Bool.{and_from, and_parts, ltb-true, lt-ltb, false≢true}
 use Rattle.std.proofs.lemmas.List.{length-append}
 use Rattle.std.specs.List.{list_all}
-use Rattle.layer_ast.specs.declared.syntax.Function.{Function}
-use Rattle.layer_ast.specs.declared.syntax.Operator.{Operator}
+use Rattle.layer_words.specs.declared.operators.Function.{Function}
+use Rattle.layer_words.specs.declared.operators.Operator.{Operator}
 use Rattle.layer_mean.specs.Value.{is_true}
 use Rattle.trace_mean.specs.Trace.{Atom, number, peer, field, bound, taken_number, value, TraceNumber, atom, me, count}
 use Rattle.trace_mean.specs.Trace.{ltime, element, square, rows, item, size, binary, apply, pick, body, noted}

@@ -9,9 +9,9 @@ use Rattle.std.specs.Prelude.{option_and_then, Ok}
 use Rattle.msg_core.specs.Chain.{Content}
 use Rattle.msg_core.specs.Parts.{longest_body}
 use Rattle.msg_core.specs.declared.message.Header.{Header}
-use Rattle.layer_ast.specs.declared.tokens.Kind.{Kind}
-use Rattle.layer_ast.specs.declared.syntax.Shape.{Shape}
-use Rattle.layer_ast.specs.declared.syntax.Shape.TheVariants.{One, Array, Square}
+use Rattle.layer_words.specs.declared.events.Kind.{Kind}
+use Rattle.layer_words.specs.declared.sorts.Shape.{Shape}
+use Rattle.layer_words.specs.declared.sorts.Shape.TheVariants.{One, Array, Square}
 use Rattle.layer_mean.specs.declared.run.Case.{Case}
 use Rattle.layer_mean.specs.declared.run.Event.{Event}
 use Rattle.layer_mean.specs.declared.run.Row.{Row}
@@ -28,7 +28,7 @@ use Rattle.chain_laws.specs.Typed.{Queue, queue_in, queue_at}
 use Rattle.chain_laws.specs.Runs.{AreChainedStates}
 use Rattle.chain_laws.proofs.Lists.{zip_at}
 use Rattle.chain_laws.proofs.Sorts.{Kept, kept, rows_at_kept, row_at_kept, message_in_body}
-use Rattle.file_laws.specs.Named.{NamedStack, shape_in, form_at}
+use Rattle.chain_laws.specs.Named.{NamedStack, shape_in, form_at}
 use Rattle.trace_mean.specs.Trace.{number, TraceNumber, atom, me, count, ltime, element, square, rows, item, size}
 use Rattle.trace_mean.specs.Trace.{binary, apply, pick, body, TraceMessage, core, held, cut, tail, join, Operation}
 use Rattle.trace_mean.specs.Trace.{bind, note, check, set, set_square, push, take, output}

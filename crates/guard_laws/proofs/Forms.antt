@@ -3,8 +3,8 @@ use Rattle.std.proofs.Common.{◌≡◌, ℕ, ◌+◌, Bool, true, false, inl, i
 use Rattle.std.proofs.Common.{option_map, Some, None, fold, is_some, refl, sym, ap, subst}
 use Rattle.std.proofs.lemmas.Bool.{and_from, and_parts}
 use Rattle.std.specs.List.{AllByRecursion, list_all}
-use Rattle.layer_ast.specs.declared.syntax.Function.{Function}
-use Rattle.layer_ast.specs.declared.syntax.Operator.{Operator}
+use Rattle.layer_words.specs.declared.operators.Function.{Function}
+use Rattle.layer_words.specs.declared.operators.Operator.{Operator}
 use Rattle.layer_mean.specs.State.{row_at}
 use Rattle.layer_mean.specs.Tree.{ItemsTree, LayerTree}
 use Rattle.layer_mean.specs.Value.{is_true}

@@ -1,9 +1,9 @@
--- The same readings are worth the same.
+-- Readings that are spelled alike are worth the same.
 use Rattle.std.proofs.Common.{◌≡◌, ◌==◌, true, List, refl, ap, ap₂}
 use Rattle.std.proofs.lemmas.Bool.{eqb-true, and_parts, false≢true}
 use denote.Enum.Bare.{sameb, same_true}
-use Rattle.layer_ast.specs.contracts.syntax.Operator as operator_row
-use Rattle.layer_ast.specs.contracts.syntax.Function as function_row
+use Rattle.layer_words.specs.contracts.operators.Operator as operator_row
+use Rattle.layer_words.specs.contracts.operators.Function as function_row
 use Rattle.layer_mean.specs.State.{State}
 use Rattle.trace_mean.specs.Worth.{Input, Kept}
 use Rattle.guard_mean.specs.Code.{Operand, number, me, count, ltime, peer, field, made, taken, Source, body, nothing}

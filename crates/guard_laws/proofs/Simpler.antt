@@ -8,10 +8,10 @@ use Rattle.std.proofs.lemmas.List.Folds.{list_all-append}
 use Rattle.std.specs.List.{list_all}
 use Rattle.msg_core.specs.Chain.{Content}
 use Rattle.msg_core.specs.Parts as parts
-use Rattle.layer_ast.specs.declared.syntax.Function.{Function}
-use Rattle.layer_ast.specs.declared.syntax.Operator.{Operator}
-use Rattle.layer_ast.specs.declared.syntax.Operator.TheVariants.{Equal, NotEqual, Less, LessOrEqual, Greater}
-use Rattle.layer_ast.specs.declared.syntax.Operator.TheVariants.{GreaterOrEqual}
+use Rattle.layer_words.specs.declared.operators.Function.{Function}
+use Rattle.layer_words.specs.declared.operators.Operator.{Operator}
+use Rattle.layer_words.specs.declared.operators.Operator.TheVariants.{Equal, NotEqual, Less, LessOrEqual, Greater}
+use Rattle.layer_words.specs.declared.operators.Operator.TheVariants.{GreaterOrEqual}
 use Rattle.layer_mean.specs.State.{State, number_at, flat_index, rows_at, row_at, with_number, with_row, without_front}
 use Rattle.layer_mean.specs.Value.{is_true, of_bool, applied, function_of, number_in, message_in}
 use Rattle.trace_mean.specs.Trace.{Atom, number, peer, field, bound, taken_number, value, TraceNumber, atom, me, count}

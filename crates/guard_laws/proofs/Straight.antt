@@ -9,14 +9,14 @@ use Rattle.std.proofs.lemmas.List.Sums.{fold-append}
 use Rattle.std.specs.List.{list_all}
 use Rattle.msg_core.specs.Chain.{Content, plain}
 use Rattle.msg_core.specs.Parts as message_parts
-use Rattle.layer_ast.specs.declared.syntax.Operator.TheVariants.{And}
+use Rattle.layer_words.specs.declared.operators.Operator.TheVariants.{And}
 use Rattle.layer_mean.specs.declared.run.Row.{Row}
 use Rattle.layer_mean.specs.Tree.{Carried, part, whole}
 use Rattle.layer_mean.specs.State.{State, number_at, flat_index, rows_at, row_at, with_number, with_row, without_front}
 use Rattle.layer_mean.specs.Value.{is_true, applied, function_of, number_in, message_in, missing}
 use Rattle.layer_mean.specs.Event.{event_of}
 use Rattle.layer_mean.specs.declared.run.Event.{Event}
-use Rattle.layer_ast.specs.declared.tokens.Dir.{Dir}
+use Rattle.layer_words.specs.declared.events.Dir.{Dir}
 use Rattle.trace_mean.specs.Trace.{Atom, number, peer, field, bound, taken_number, value, Core, body, noted}
 use Rattle.trace_mean.specs.Trace.{taken_message, nothing, TraceNumber, atom, me, count, ltime, element, square, rows}
 use Rattle.trace_mean.specs.Trace.{item, size, binary, apply, pick, TraceMessage, core, held, cut, tail, join, Link}

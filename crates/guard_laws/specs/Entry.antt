@@ -7,7 +7,7 @@ use Rattle.layer_mean.specs.State.{State}
 use Rattle.layer_mean.specs.Tree.{LayerTree}
 use Rattle.stack_mean.specs.Acceptance.{weight_limit}
 use Rattle.stack_mean.specs.Shape.{Known}
-use Rattle.file_laws.specs.Named.{NamedStack}
+use Rattle.chain_laws.specs.Named.{NamedStack}
 use Rattle.trace_mean.specs.Trace.{Operation}
 use Rattle.trace_mean.specs.Worth.{Input}
 use Rattle.trace_mean.specs.Follow.{follow}

@@ -12,12 +12,14 @@ closed_atom n (bound k) = false
 closed_atom n (taken_number r k) = false
 closed_atom n _ = true
 
+-- Whether a core is the input's body or none, and so names no note and no taken row.
 abbrev pub closed_core : Core → Bool
 closed_core (noted k) = false
 closed_core (taken_message r carried) = false
 closed_core _ = true
 
 abbrev mutual
+  -- Whether a number reads only entry values below n, and nothing that is bound, noted or taken.
   pub closed_number : ℕ → TraceNumber → Bool
   closed_number n (atom a) = closed_atom n a
   closed_number n (element p c e) = closed_number n e
@@ -30,6 +32,7 @@ abbrev mutual
   closed_number n (pick c a b) = closed_number n c && (closed_number n a && closed_number n b)
   closed_number n _ = true
 
+  -- Whether a message names no note and no taken row, and its numbers read only entry values below n.
   pub closed_message : ℕ → TraceMessage → Bool
   closed_message n (core c) = closed_core c
   closed_message n (held p c e r carried) = closed_number n e && closed_number n r
@@ -37,6 +40,7 @@ abbrev mutual
   closed_message n (tail m f) = closed_message n m && closed_number n f
   closed_message n (join a b) = closed_message n a && closed_message n b
 
+-- Whether each of these entry values, numbered from n, reads only those of smaller numbers.
 abbrev pub all_closed : ℕ → List TraceNumber → Bool
 all_closed n [] = true
 all_closed n (e ∷ es) = closed_number n e && all_closed (suc n) es

@@ -9,4 +9,5 @@ pub mod Same
 pub mod Machine
 pub mod Straight
 pub mod Closed
+pub mod Checks
 pub mod Samples

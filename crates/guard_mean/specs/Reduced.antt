@@ -9,6 +9,8 @@ use Rattle.guard_mean.specs.Simplify.{is_comparison, is_equal, is_number}
 
 -- No operator, function or choice is over numbers alone, and nothing is compared with itself.
 abbrev mutual
+  -- Whether no operator, function or choice in a number is over literals alone, and nothing in it is asked to equal
+  -- itself.
   pub plain : TraceNumber → Bool
   plain (element p c e) = plain e
   plain (square p c r k) = plain r && plain k
@@ -21,6 +23,7 @@ abbrev mutual
   plain (pick c a b) = not (is_number c && (is_number a && is_number b)) && (plain c && (plain a && plain b))
   plain _ = true
 
+  -- Whether all numbers in a message are plain.
   pub plain_message : TraceMessage → Bool
   plain_message (held p c e r carried) = plain e && plain r
   plain_message (cut m f n) = plain_message m && (plain f && plain n)
@@ -30,6 +33,7 @@ abbrev mutual
 
 -- No comparison in it is one of these conjuncts.
 abbrev mutual
+  -- Whether no comparison in a number is one of these conjuncts.
   pub clear : List TraceNumber → TraceNumber → Bool
   clear ks (element p c e) = clear ks e
   clear ks (square p c r k) = clear ks r && clear ks k
@@ -41,6 +45,7 @@ abbrev mutual
   clear ks (pick c a b) = clear ks c && (clear ks a && clear ks b)
   clear ks _ = true
 
+  -- Whether no comparison in the numbers of a message is one of these conjuncts.
   pub clear_message : List TraceNumber → TraceMessage → Bool
   clear_message ks (held p c e r carried) = clear ks e && clear ks r
   clear_message ks (cut m f n) = clear_message ks m && (clear ks f && clear ks n)
@@ -48,14 +53,16 @@ abbrev mutual
   clear_message ks (join a b) = clear_message ks a && clear_message ks b
   clear_message ks _ = true
 
--- An entry value after others, and a conjunct after others: it is no number, and isn't one of those before it.
+-- What an entry value or a conjunct must be after others: plain, no literal, and none of those before it.
 abbrev pub is_new : List TraceNumber → TraceNumber → Bool
 is_new es e = plain e && (not (is_number e) && not (is_among es e))
 
+-- Whether each of these entry values is new after es and those before it.
 abbrev pub all_new : List TraceNumber → List TraceNumber → Bool
 all_new es [] = true
 all_new es (x ∷ xs) = is_new es x && all_new (es ++ x ∷ []) xs
 
+-- Whether each of these conjuncts is new after ks and those before it, and no comparison in it is one of them.
 abbrev pub all_clear : List TraceNumber → List TraceNumber → Bool
 all_clear ks [] = true
 all_clear ks (x ∷ xs) = (is_new ks x && clear ks x) && all_clear (ks ++ x ∷ []) xs

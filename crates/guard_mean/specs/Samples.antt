@@ -1,9 +1,9 @@
 -- Guards of small traces, made by evaluation.
 use Rattle.std.specs.Prelude.{◌≡◌, ℕ, List, [], ◌∷◌, Option, Some, None, Ok, codes}
-use Rattle.layer_ast.specs.declared.tokens.Dir.TheVariants.{Up, Down}
-use Rattle.layer_ast.specs.declared.tokens.Kind.TheVariants.{Cast}
-use Rattle.layer_ast.specs.declared.syntax.Likely.TheVariants as likely
-use Rattle.layer_ast.specs.declared.syntax.Operator.TheVariants.{Add, Subtract, Equal, Less, And, BitAnd}
+use Rattle.layer_words.specs.declared.events.Dir.TheVariants.{Up, Down}
+use Rattle.layer_words.specs.declared.events.Kind.TheVariants.{Cast}
+use Rattle.layer_words.specs.declared.sorts.Likely.TheVariants as likely
+use Rattle.layer_words.specs.declared.operators.Operator.TheVariants.{Add, Subtract, Equal, Less, And, BitAnd}
 use Rattle.layer_mean.specs.Tree as tree
 use Rattle.layer_mean.specs.Tree.{part, local, message, branch, none, always, common, ExpressionTree, LayerTree}
 use Rattle.layer_mean.specs.declared.run.Case.TheVariants.{First}
@@ -21,6 +21,7 @@ use Rattle.guard_mean.specs.Code as code
 use Rattle.guard_mean.specs.Code.{Code, require, make}
 use Rattle.guard_mean.specs.Straight.{code_of}
 
+-- The guarded handler of operations, with its checks carried to the entry and made simpler.
 abbrev pub guard_of : List Operation → Guarded
 guard_of operations = simplified (hoist operations)
 
@@ -29,15 +30,16 @@ abbrev pub IsGuardOf : LayerTree → Known → List (Option ℕ) → Guarded →
 IsGuardOf layer k fields g = drawn_from (λ operations. Ok (guard_of operations)) (trace_of First (layer ∷ []) k fields)
     ≡ Ok g
 
--- The code that is run for it.
+-- The code that is run for the guarded handler of an entry in the first case.
 abbrev pub IsCodeOf : LayerTree → Known → List (Option ℕ) → Code → Type 0
 IsCodeOf layer k fields c = drawn_from (λ operations. Ok (code_of (guard_of operations)))
     (trace_of First (layer ∷ []) k fields) ≡ Ok c
 
--- A packet of the counter is common where its number is the one that is due. No entry value is needed.
+-- The counter's check of a packet: its number is the one that is due of its sender.
 abbrev pub due : TraceNumber
 due = binary Equal (atom (field 0)) (element 0 1 (atom peer))
 
+-- A packet of the counter is common where its number is the one that is due. No entry value is needed.
 abbrev pub CounterGuard : Type 0
 CounterGuard = IsGuardOf counter (packet_entry Cast (1 ∷ [])) (None ∷ []) (record {
   values = [];
@@ -86,13 +88,15 @@ AliasedGuard = guard_of (set 0 1 (cell 0 0) (lit 5) ∷ check (binary Equal (ele
       operations = set 0 1 (cell 0 0) (lit 5) ∷ [];
     }
 
--- A row that is pushed on a queue that is empty at entry, and then counted and looked at.
+-- How many rows the queue has after one push, in entry terms.
 abbrev pub more_rows : TraceNumber
 more_rows = binary Add (rows 0 1 (lit 0)) (lit 1)
 
+-- A push of a row whose one number is that of the first cell, with the body as its message.
 abbrev pub pushing : Operation
 pushing = push 0 1 (lit 0) (cell 0 0 ∷ []) (with_chain [] body)
 
+-- A row is pushed on a queue that is empty at entry, and then counted and looked at.
 abbrev pub QueueGuard : Type 0
 QueueGuard = guard_of (check (binary Equal (rows 0 1 (lit 0)) (lit 0)) ∷ pushing
     ∷ check (binary Equal (rows 0 1 (lit 0)) (lit 1)) ∷ check (binary Equal (item 0 1 (lit 0) (lit 0) 0) (lit 7)) ∷ [])
@@ -105,10 +109,11 @@ QueueGuard = guard_of (check (binary Equal (rows 0 1 (lit 0)) (lit 0)) ∷ pushi
       operations = pushing ∷ [];
     }
 
--- The size of a held row's message after another row was taken is that of the next row.
+-- The size of the message that a row of the queue holds.
 abbrev pub few_bytes : TraceNumber → TraceNumber
 few_bytes row = size (held 0 1 (lit 0) row part)
 
+-- The size of a held row's message after another row was taken is that of the next row.
 abbrev pub HeldGuard : Type 0
 HeldGuard = guard_of (check (binary Less (few_bytes (lit 0)) (lit 100)) ∷ take 0 1 (lit 0) ∷
     check (binary Less (few_bytes (lit 0)) (lit 9)) ∷ []) ≡ record {
@@ -132,13 +137,16 @@ literal expected = record {
       (block (sends Up Cast (local 0) (message 0) 0 [] ∷ [])) none ∷ []) ∷ [];
 }
 
+-- The layer whose packet is common where its field is 5, and 1 is less than 2.
 abbrev pub is_five : LayerTree
 is_five = literal (tree.binary And (tree.binary Equal (local 1) (tree.number 5))
     (tree.binary Less (tree.number 1) (tree.number 2)))
 
+-- The layer whose packet is common where 1 is 2, so never.
 abbrev pub is_never : LayerTree
 is_never = literal (tree.binary Equal (tree.number 1) (tree.number 2))
 
+-- What a common packet does: its sender is bound, and its body is delivered.
 abbrev pub passed_on : List Operation
 passed_on = bind (atom peer) ∷ output Up Cast (bound 0 ∷ []) (with_chain [] body) ∷ []
 

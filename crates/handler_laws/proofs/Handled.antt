@@ -34,8 +34,8 @@ use Rattle.trace_mean.specs.Fuse.{entry_task}
 use Rattle.trace_laws.specs.Members.{AreOf}
 use Rattle.trace_laws.specs.Right.{answer_for, Enters}
 use Rattle.trace_form_laws.specs.Entries.{entry_node}
-use Rattle.trace_step_laws.specs.Steps.{entry_fields}
-use Rattle.trace_step_laws.proofs.Entries.{entries_begin}
+use Rattle.handler_laws.specs.Steps.{entry_fields}
+use Rattle.handler_laws.proofs.Entries.{entries_begin}
 use Rattle.guard_mean.specs.Code.{Code}
 use Rattle.guard_mean.specs.Machine.{Tested, steps, tested, begun, run_code}
 use Rattle.guard_mean.specs.Perform.{End, end_of, answer_end, holds}
@@ -48,7 +48,7 @@ use Rattle.guard_laws.proofs.Straight.{code_is_same}
 use Rattle.bypass_mean.specs.Bypasses.{Entry, plan_entry, entries_of, Made, fused, absent, Bypasses}
 use Rattle.bypass_laws.specs.Stack.{IsFused, IsMade, IsSecond, AreOfStack}
 use Rattle.stack_shapes.specs.Entries.{planned_entry}
-use Rattle.bypass_codes.specs.Codes.{code_if, second_code, codes_of, codes_in, code_at}
+use Rattle.code_table.specs.Codes.{code_if, second_code, codes_of, codes_in, code_at}
 use Rattle.handler_laws.specs.Handled.{step_input, HandlesStep, IsHandled, StepsAreHandled}
 use Rattle.handler_laws.proofs.Common.{nothing_lacks, something_lacks, Came, came, left}
 use Rattle.handler_laws.proofs.Nodes.{entry_is_node, entry_is_light}

@@ -1,3 +1,4 @@
+pub mod Entries
 pub mod Members
 pub mod Outputs
 pub mod Nodes

@@ -9,7 +9,7 @@ use Rattle.run_mean.specs.Member.{Entered, app_cast, app_send, app_leave, clock_
 use Rattle.trace_mean.specs.Worth.{Input}
 use Rattle.trace_laws.specs.Members.{AreOf}
 use Rattle.trace_laws.proofs.Members.{runs_keep_members}
-use Rattle.trace_step_laws.specs.Steps.{input_of}
+use Rattle.handler_laws.specs.Steps.{input_of}
 use Rattle.handler_laws.specs.Members.{AreOfMember, FreshAreOfMember, StepsKeepMembers, StatesAreOf}
 
 -- an input is for a member of a rank in a view

@@ -13,7 +13,7 @@ use Rattle.chain_laws.specs.Runs.{TypedStack}
 use Rattle.member_laws.specs.Steps.{IsStep}
 use Rattle.trace_mean.specs.Worth.{Input}
 use Rattle.trace_laws.specs.Members.{AreOf}
-use Rattle.trace_step_laws.specs.Steps.{entry_fields, input_of}
+use Rattle.handler_laws.specs.Steps.{entry_fields, input_of}
 use Rattle.guard_mean.specs.Code.{Code}
 use Rattle.guard_mean.specs.Machine.{tested, run_code}
 use Rattle.guard_mean.specs.Perform.{End}
@@ -22,7 +22,7 @@ use Rattle.guard_laws.specs.Safe.{SafeCode}
 use Rattle.bypass_mean.specs.Bypasses as mean
 use Rattle.bypass_laws.specs.Stack.{AreOfStack}
 use Rattle.stack_shapes.specs.Entries.{entry_for}
-use Rattle.bypass_codes.specs.Codes.{codes_of, code_at}
+use Rattle.code_table.specs.Codes.{codes_of, code_at}
 
 -- The input of a step's entry.
 abbrev pub step_input : List Plan → Here → Entered → Input

@@ -10,7 +10,7 @@ use Rattle.packet_mean.specs.declared.here.Here.{Here}
 use Rattle.run_mean.specs.Member.{Entered, step_from}
 use Rattle.chain_laws.specs.Runs.{AreChainedStates}
 use Rattle.trace_laws.specs.Members.{AreOf}
-use Rattle.trace_step_laws.specs.Steps.{input_of}
+use Rattle.handler_laws.specs.Steps.{input_of}
 
 -- A state is of the member of a rank in a view.
 pub record IsOfMember (rank : ℕ) (view : View) (s : State) : Type 0 where

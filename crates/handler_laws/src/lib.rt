@@ -1,12 +1,24 @@
-//! That the code of a step's entry does what the step does: the contracts of functions that do nothing.
+//! That following the trace of a step's entry gives what the step does, and so does the code of the entry: the
+//! contracts of functions that do nothing.
 #![tactic(auto)]
 
 ghost use Rattle.handler_laws.specs.Handled.{StepsAreHandled};
 ghost use Rattle.handler_laws.specs.Members.{FreshAreOfMember, StatesAreOf, StepsKeepMembers};
+ghost use Rattle.handler_laws.specs.Steps.{EntriesBegin, StepsFollowTraces};
+
+/// What enters a member begins with its entry's task.
+pub fn entries_begin()
+    ensures { EntriesBegin }
+{}
+
+/// A step gives what following its entry's trace gives, and safely.
+pub fn steps_follow_traces()
+    ensures { StepsFollowTraces }
+{}
 
 /// The code of a step's entry in a case passes exactly where the step is common in it, and then does what the step
 /// does.
-pub fn steps_are_handled()
+pub fn law_steps_are_handled()
     ensures { StepsAreHandled }
 {}
 

@@ -5,12 +5,12 @@ use Rattle.stack_mean.specs.Acceptance.{most_rows, rows_of}
 use Rattle.stack_mean.specs.Plan.{Plan}
 use Rattle.stack_mean.specs.Plans.{plans_of}
 use Rattle.run_mean.specs.World.{first_world}
-use Rattle.bypass_codes.specs.Codes.{CodesTree}
+use Rattle.code_table.specs.Codes.{CodesTree}
 use Rattle.bypass_laws.specs.Making.{IsSound}
-use Rattle.bypass_member.specs.Serving.{AreCodesOf}
-use Rattle.bypass_member.specs.declared.error.OpenError.{OpenError}
-use Rattle.bypass_member.specs.declared.error.OpenError.TheVariants.{TooLarge, Memory}
-use Rattle.file_layer.specs.Making.{Making}
+use Rattle.group_member.specs.Serving.{AreCodesOf}
+use Rattle.group_member.specs.declared.error.OpenError.{OpenError}
+use Rattle.group_member.specs.declared.error.OpenError.TheVariants.{TooLarge, Memory}
+use Rattle.live_layer.specs.Making.{Making}
 use Rattle.group_feed.specs.Standing.{Peopled, Stands}
 use Rattle.stack_shapes.specs.Starts.{starts_of}
 use Rattle.stack_shapes.specs.Shapes.{ShortShapes, short_shapes}

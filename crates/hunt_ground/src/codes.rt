@@ -2,17 +2,17 @@
 
 ghost use Rattle.std.specs.Prelude.{◌≡◌, IfOk};
 ghost use Rattle.std.specs.Rc.{rc_value};
-ghost use Rattle.bypass_codes.specs.Codes.{codes_of};
+ghost use Rattle.code_table.specs.Codes.{codes_of};
 ghost use Rattle.bypass_laws.specs.Making.{IsSound};
-ghost use Rattle.bypass_member.specs.Serving.{AreCodesOf};
-ghost use Rattle.event_graph.specs.Answer.{stack_tree};
+ghost use Rattle.group_member.specs.Serving.{AreCodesOf};
+ghost use Rattle.stack_judge.specs.Answer.{stack_tree};
 ghost use Rattle.stack_mean.specs.Plans.{plans_of};
 ghost use Rattle.stack_shapes.specs.Shapes.{short_shapes};
 ghost use Rattle.stack_shapes.specs.Trees.{plans_tree};
 ghost use Rattle.trace_core.specs.Bypasses.{bypasses_tree};
 
-use bypass_codes::Codes;
-use event_graph::Stack;
+use code_table::Codes;
+use stack_judge::Stack;
 use stack_shapes::StackShapes;
 use std::alloc::{AllocError, Global};
 use std::rc::Rc;

@@ -2,23 +2,23 @@
 
 ghost use Rattle.std.specs.Prelude.{◌≡◌, ◌≤◌, IfOk};
 ghost use Rattle.bypass_laws.specs.Making.{IsSound};
-ghost use Rattle.event_graph.specs.Answer.{stack_tree};
+ghost use Rattle.stack_judge.specs.Answer.{stack_tree};
 ghost use Rattle.msg_core.specs.View.{most_members};
 ghost use Rattle.hunt_ground.specs.Grounds.{Begins};
 
 use crate::codes::code_for;
 use crate::group::Group;
-use bypass_codes::Codes;
-use bypass_member::{OpenError, Opening};
-use event_graph::Stack;
-use file_layer::Maker;
+use code_table::Codes;
+use group_member::{OpenError, Opening};
+use group_world::World;
+use live_layer::Maker;
 use msg_core::Memory;
+use stack_judge::Stack;
 use stack_shapes::{EntryShapes, PlanStarts, Plans, StackShapes};
 use std::alloc::Global;
 use std::marker::Model;
 use std::rc::Rc;
 use step_outputs::Outputs;
-use world_core::World;
 
 /// The number of each group.
 const GROUP: u32 = 1;
@@ -48,10 +48,10 @@ impl Model for Ground {
     ghost use Rattle.std.specs.Rc.{rc_value};
     ghost use Rattle.layer_mean.specs.Codes.{stack_code};
     ghost use Rattle.layer_mean.specs.Tree.{LayerTree};
-    ghost use Rattle.event_graph.specs.Answer.{stack_tree};
+    ghost use Rattle.stack_judge.specs.Answer.{stack_tree};
     ghost use Rattle.stack_shapes.specs.Starts.{starts_tree};
     ghost use Rattle.stack_shapes.specs.Trees.{plans_tree};
-    ghost use Rattle.file_layer.specs.Making.{making};
+    ghost use Rattle.live_layer.specs.Making.{making};
     ghost use Rattle.hunt_ground.specs.Grounds.{IsGround};
 
     ghost Value = { List LayerTree };
@@ -109,7 +109,7 @@ impl Ground {
             return Err(OpenError::Memory);
         }
         self.begun += 1;
-        let Ok(outputs) = Outputs::fresh(alloc, &self.stack) else {
+        let Ok(outputs) = Outputs::new(alloc, &self.stack) else {
             return Err(OpenError::Memory);
         };
         let opening = Opening {

@@ -4,16 +4,16 @@ ghost use Rattle.std.specs.Prelude.{◌≡◌, ◌+◌, ◌≤◌, ◌^◌, leng
 ghost use Rattle.stack_mean.specs.Acceptance.{largest_weight};
 ghost use Rattle.run_mean.specs.World as mean;
 ghost use Rattle.group_feed.specs.Standing.{Stands, Stays};
-ghost use Rattle.world_core.specs.Restarting.{Restarts};
+ghost use Rattle.group_world.specs.Restarting.{Restarts};
 ghost use Rattle.hunt_ground.specs.Feeding.{Feeds};
 
 use group_feed::Feed;
+use group_world::World;
 use msg_core::Memory;
 use script_mean::{ScriptEvent, member_of};
 use std::marker::Model;
 use step_outputs::Outputs;
 use view_core::Did;
-use world_core::World;
 
 /// A group, with the outputs of its last step. It can't be let go: it is closed. Contracts see its members and packets.
 pub struct Group {
@@ -27,7 +27,7 @@ impl Model for Group {
     ghost use Rattle.std.specs.Coded.{codes};
     ghost use Rattle.layer_mean.specs.Codes.{stack_code};
     ghost use Rattle.stack_mean.specs.Acceptance.{largest_weight};
-    ghost use Rattle.bypass_member.specs.Modes.{mode_code};
+    ghost use Rattle.group_member.specs.Modes.{mode_code};
     ghost use Rattle.group_feed.specs.Standing.{Peopled};
 
     ghost Value = { Peopled };

@@ -8,7 +8,7 @@ use Rattle.outside.specs.Said.{errors}
 use Rattle.outside.specs.Tells.{Tells}
 use Rattle.program_streams.specs.Streams.{Stream, stream}
 use Rattle.job_ends.specs.Comes.{surrounding}
-use Rattle.job_streams.specs.Closes.{Closes, end_after_delivery}
+use Rattle.job_ends.specs.Closes.{Closes, end_after_delivery}
 use Rattle.hunt_mean.specs.Ends.{Comes, Good, Runs}
 use Rattle.hunt_mean.specs.Words.{Request, request_of}
 

@@ -15,6 +15,7 @@ rules =
     option (codes "runs") ∷
     option (codes "seed") ∷ option (codes "seconds") ∷ []
 
+-- the command line of `stackhunt`, by these rules
 abbrev pub command : App
 command = command_of (codes "stackhunt") rules
 

@@ -8,7 +8,7 @@ use Rattle.outside.specs.Shelf.{Shelved}
 use Rattle.outside.specs.Tells.{Tells}
 use Rattle.end_mean.specs.Status.{Ended, done, breached}
 use Rattle.job_ends.specs.Comes.{surrounding}
-use Rattle.job_streams.proofs.Closed.{ends_well, ends_in_breach}
+use Rattle.job_ends.proofs.Closed.{ends_well, ends_in_breach}
 use Rattle.hunt_mean.specs.Ends.{Comes, Whole}
 use Rattle.hunt_mean.specs.Through.{RunsThrough, Delivers, DeliversAll}
 use Rattle.program_streams.specs.Streams.{Stream, HandsOn, stream}

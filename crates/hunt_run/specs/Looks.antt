@@ -56,7 +56,7 @@ abbrev pub Looks : Request → (file : List ℕ) → Result Output Ending → Ty
 Looks r file (Ok o) = IsOutput r (end_of o) file o.text
 Looks r file (Err ending) = Stops r file (shown_end ending)
 
--- The same over the file that the next read found.
+-- What a hunt writes over the file that the next read found.
 pub record IsFetched (r : Request) (told : Option Shelved) (reads reads_after : ℕ) (o : Output) : Type 0 where
   pub file : List ℕ
   pub read : IsText r.file told reads reads_after file

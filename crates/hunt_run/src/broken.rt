@@ -5,17 +5,15 @@ ghost use Rattle.hunt_run.specs.Breaks.{Breaks, CanPlay, IsAsked, IsBreach, IsWi
 ghost use Rattle.hunt_run.specs.Reading.{request_shown};
 
 use crate::words::Request;
+use audit_judge::{AuditError, Finding, Law, audit};
 use file_judge::{FileError, judge};
 use group_mean::Mode;
+use job_text::MOST_GENERATED;
 use outside::StillSink;
 use play_jobs::{PlayError, Wanted, play};
-use run_audit::{AuditError, Finding, Law, audit};
 use script_mean::Script;
 use script_text::{ScriptError, read_script};
 use std::alloc::{AllocError, Global};
-
-/// The most events of a script.
-const MOST_EVENTS: usize = 99_999;
 
 /// A report, and the two lines of it that break a law.
 #[derive(Drop)]
@@ -77,7 +75,7 @@ fn within(request: Request<'_>, script: Script) -> Option<Script>
     let events = script.events.slice().len();
     if script.members > request.members
         || events > request.events as usize
-        || events > MOST_EVENTS
+        || events > MOST_GENERATED as usize
     {
         return None;
     }
@@ -107,7 +105,7 @@ fn report_of(alloc: Global, file: &[u8], script: &Script) -> Result<Option<Vec<u
     }
 }
 
-/// The same bytes once more.
+/// A copy of these bytes, in memory of its own.
 fn copy_of(alloc: Global, bytes: &[u8]) -> Result<Vec<u8>, AllocError>
     ensures { IfOk result (λ copy. copy.items ≡ bytes.now) }
 {

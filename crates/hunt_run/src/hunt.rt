@@ -1,7 +1,7 @@
 //! Runs over the stack of a file, until one breaks the law.
 
 ghost use Rattle.std.specs.Prelude.{◌≡◌, true};
-ghost use Rattle.event_graph.specs.Answer.{stack_tree};
+ghost use Rattle.stack_judge.specs.Answer.{stack_tree};
 ghost use Rattle.output_mean.specs.Judged.{Means};
 ghost use Rattle.hunt_run.specs.Looks.{Goes, IsHeldLine, Looks, Makes};
 ghost use Rattle.hunt_run.specs.Reading.{request_shown};
@@ -10,17 +10,14 @@ use crate::found::find;
 use crate::told::holds_line;
 use crate::watch::Watch;
 use crate::words::Request;
-use event_graph::Stack;
 use file_judge::judge;
 use hunt_search::{Aim, Search, SearchError};
 use job_ends::Ending;
 use outside::Clock;
 use report_lines::Line;
+use stack_judge::{MOST_ROWS, Stack};
 use std::alloc::Global;
 use std::io::Write;
-
-/// The most rows with messages of a member.
-const MOST_ROWS: u32 = 8_192;
 
 /// What is written, and whether it is a breach.
 #[derive(Drop)]
@@ -42,7 +39,7 @@ pub(crate) fn look<C: Clock + Drop, N: Write + Drop>(
     look_over(alloc, request, file, stack, watch)
 }
 
-/// The same, with the stack that the file means.
+/// What a hunt over the stack that a file means writes, or how it ends.
 fn look_over<C: Clock + Drop, N: Write + Drop>(
     alloc: Global,
     request: Request<'_>,
@@ -62,7 +59,7 @@ fn look_over<C: Clock + Drop, N: Write + Drop>(
         members: request.members,
         events: request.events,
     };
-    match Search::of(alloc, stack, aim) {
+    match Search::new(alloc, stack, aim) {
         Ok(mut search) => {
             let made = all_runs(alloc, request, file, &mut search, watch);
             search.close();

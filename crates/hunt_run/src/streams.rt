@@ -9,7 +9,7 @@ ghost use Rattle.hunt_mean.specs.Words.{request_of};
 
 use crate::over_sinks::perform;
 use crate::watch::Watch;
-use job_streams::close;
+use job_ends::close;
 use outside::{Clock, Shelf, Sink, StdSink};
 use std::alloc::Global;
 use std::io::Write;

@@ -2,8 +2,7 @@
 
 use crate::streams::run_through;
 use crate::watch::Watch;
-use job_ends::NO_MEMORY;
-use outside::{FileShelf, RunClock};
+use outside::{FileShelf, NO_MEMORY, RunClock};
 use program_streams::begin;
 use std::io::{IsTerminal, Write};
 use std::rt::{Clock as SystemClock, Env, Files};
@@ -19,9 +18,9 @@ pub fn program<
     let Ok((words, mut out, mut err)) = begin(system, out, err) else {
         return NO_MEMORY;
     };
-    let mut shelf = FileShelf::of(system);
+    let mut shelf = FileShelf::new(system);
     let is_read = notes.is_terminal();
-    let mut watch = Watch::of(RunClock::of(system), notes, is_read);
+    let mut watch = Watch::new(RunClock::new(system), notes, is_read);
     run_through(
         system.alloc(),
         &words,

@@ -25,7 +25,7 @@ pub struct Watch<C: Clock + Drop, N: Write + Drop> {
 
 impl<C: Clock + Drop, N: Write + Drop> Watch<C, N> {
     /// A watch by this clock, which tells its progress on a stream, if somebody reads it.
-    pub fn of(clock: C, notes: N, is_read: bool) -> Watch<C, N> {
+    pub fn new(clock: C, notes: N, is_read: bool) -> Watch<C, N> {
         Watch {
             clock,
             began: 0,

@@ -13,12 +13,9 @@ ghost use Rattle.hunt_run.specs.Reading.{request_shown};
 use audit_mean::Law;
 use clap::{ArgMatches, Command};
 use command_line::{bare, option, required, taken, text, with};
-use job_text::{a_number, a_number_or_zero, law_of};
+use job_text::{MOST_GENERATED, a_number, a_number_or_zero, law_of};
 use msg_core::MOST_MEMBERS;
 use std::alloc::{AllocError, Global};
-
-/// The most events of a run.
-const MOST_EVENTS: u32 = 99_999;
 
 /// The most seconds of a hunt.
 const MOST_SECONDS: u32 = 1_000_000;
@@ -56,7 +53,7 @@ fn request_in<'w>(matches: &ArgMatches<'w>) -> Option<Request<'w>>
     let file = text(matches, "file")?;
     let law = law_of(text(matches, "law"))?;
     let members = members_of(text(matches, "members"))?;
-    let events = a_number(1, MOST_EVENTS, text(matches, "events"))?;
+    let events = a_number(1, MOST_GENERATED, text(matches, "events"))?;
     let runs = a_number(1, u32::MAX, text(matches, "runs"))?;
     let seed = a_number(0, u32::MAX, text(matches, "seed"))?;
     let seconds = a_number_or_zero(MOST_SECONDS, text(matches, "seconds"))?;

@@ -1,6 +1,6 @@
 -- Why a search ends whose group wasn't opened.
-use Rattle.bypass_member.specs.declared.error.OpenError.{OpenError}
-use Rattle.bypass_member.specs.declared.error.OpenError.TheVariants as opening
+use Rattle.group_member.specs.declared.error.OpenError.{OpenError}
+use Rattle.group_member.specs.declared.error.OpenError.TheVariants as opening
 use Rattle.hunt_search.specs.declared.error.SearchError.{SearchError}
 use Rattle.hunt_search.specs.declared.error.SearchError.TheVariants as search_error
 

@@ -4,7 +4,7 @@ ghost use Rattle.std.specs.Prelude.{◌≡◌};
 ghost use Rattle.hunt_search.specs.declared.error.SearchError.TheVariants as search_error;
 ghost use Rattle.hunt_search.specs.Opened.{not_opened};
 
-use bypass_member::OpenError;
+use group_member::OpenError;
 use msg_core::Memory;
 use std::alloc::{AllocError, AllocFailed};
 use thiserror::Error;

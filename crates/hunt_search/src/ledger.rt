@@ -26,6 +26,7 @@ pub(crate) struct Ledger {
 }
 
 impl Ledger {
+    /// A ledger of no steps, which takes no memory yet.
     pub(crate) fn new(alloc: Global) -> Ledger {
         Ledger {
             sent: Vec::new(alloc),
@@ -43,6 +44,7 @@ impl Ledger {
         Ok(())
     }
 
+    /// What was noted, in the order in which it happened.
     pub(crate) fn notes(&self) -> &[Note] {
         self.notes.as_slice()
     }

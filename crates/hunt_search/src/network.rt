@@ -39,7 +39,7 @@ pub(crate) fn only(member: u8) -> u32 {
 
 impl Network {
     /// A network of this many members, on which nothing is on its way.
-    pub(crate) fn of(alloc: Global, members: u8) -> Result<Network, SearchError> {
+    pub(crate) fn new(alloc: Global, members: u8) -> Result<Network, SearchError> {
         Ok(Network {
             dues: Vec::with_capacity(alloc, MOST_DUES)?,
             waiting: Vec::new(alloc),

@@ -47,7 +47,7 @@ impl Act {
         }
     }
 
-    /// The same with another body, where it brings one.
+    /// This act with another body, where it brings one.
     pub(crate) fn with_body(self, body: Body) -> Act {
         match self {
             Act::Cast(_) => Act::Cast(body),
@@ -58,7 +58,7 @@ impl Act {
 }
 
 impl Step {
-    /// The same in a group without one member, unless the step is that member's or sends to it.
+    /// This step in a group without one member; none where it is that member's step or sends to it.
     pub(crate) fn without(self, gone: u8) -> Option<Step> {
         let member = number_without(self.member, gone)?;
         let act = match self.act {

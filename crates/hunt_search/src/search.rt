@@ -1,7 +1,7 @@
 //! Runs, one after the other, and what is found in them.
 
 ghost use Rattle.bypass_laws.specs.Making.{IsSound};
-ghost use Rattle.event_graph.specs.Answer.{stack_tree};
+ghost use Rattle.stack_judge.specs.Answer.{stack_tree};
 
 use crate::error::SearchError;
 use crate::judge::is_broken;
@@ -11,9 +11,9 @@ use crate::schedule::{Schedule, Step};
 use crate::text::Text;
 use crate::wander::Wander;
 use audit_mean::Law;
-use event_graph::Stack;
 use hunt_ground::{Ground, Group};
 use msg_core::MOST_MEMBERS;
+use stack_judge::Stack;
 use std::alloc::Global;
 
 /// In how many of the four parts of a run it is unquiet.
@@ -38,7 +38,8 @@ pub struct Search {
 }
 
 impl Search {
-    pub fn of(alloc: Global, stack: Stack, aim: Aim) -> Result<Search, SearchError>
+    /// A search over a stack that is accepted, before its first run.
+    pub fn new(alloc: Global, stack: Stack, aim: Aim) -> Result<Search, SearchError>
         requires { IsSound (stack_tree stack) }
     {
         Ok(Search {
@@ -61,6 +62,7 @@ impl Search {
         Ok(Some(script))
     }
 
+    /// Where a search takes its memory.
     pub(crate) fn alloc(&self) -> Global {
         self.alloc
     }
@@ -116,7 +118,7 @@ impl Search {
     fn wander(&mut self, number: u64) -> Result<Schedule, SearchError> {
         let events = self.aim.events;
         let members = self.aim.members;
-        let mut wander = Wander::of(self.alloc, members, number)?;
+        let mut wander = Wander::new(self.alloc, members, number)?;
         self.ledger.clear(events)?;
         let mut group = self.open(members)?;
         let steps = wander_on(

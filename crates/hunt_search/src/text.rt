@@ -39,6 +39,7 @@ impl Text {
         Ok(())
     }
 
+    /// The bytes of the text, which itself is ended.
     pub(crate) fn into_bytes(self) -> Vec<u8> {
         let Text { bytes, line: _ } = self;
         bytes

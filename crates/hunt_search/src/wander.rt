@@ -36,13 +36,13 @@ pub(crate) struct Wander {
 
 impl Wander {
     /// A run of this many members, by its number.
-    pub(crate) fn of(alloc: Global, members: u8, run: u64) -> Result<Wander, SearchError> {
+    pub(crate) fn new(alloc: Global, members: u8, run: u64) -> Result<Wander, SearchError> {
         let mut random = Random::of(run);
         let habits = Habits::draw(&mut random);
         Ok(Wander {
             random,
             habits,
-            network: Network::of(alloc, members)?,
+            network: Network::new(alloc, members)?,
             members,
             moment: 0,
             bodies: 0,

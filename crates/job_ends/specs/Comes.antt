@@ -45,6 +45,8 @@ pub record Around : Type 0 where
   pub output : Tells
   pub output_after : Tells
 
+-- What a run began with and what it left, from what the shelf told, its count of faults before and after, and what the
+-- output told before and after.
 abbrev pub surrounding : Option Shelved → ℕ → ℕ → Tells → Tells → Around
 surrounding told reads reads_after output output_after = record {
   told = told;
@@ -54,7 +56,7 @@ surrounding told reads reads_after output output_after = record {
   output_after = output_after;
 }
 
--- The same, by what a shelf and an output were before and after.
+-- What a run began with and what it left, by what a shelf and an output were before and after.
 abbrev pub around : {S O : Type 0} → shelves.Ghosts S → outputs.Ghosts O → S → S → O → O → Around
 around s o shelf shelf_after out out_after = surrounding (s.told shelf) (s.faults shelf) (s.faults shelf_after)
     (tells_of o out) (tells_of o out_after)

@@ -4,3 +4,4 @@ pub mod Causes
 pub mod Comes
 pub mod Seen
 pub mod Due
+pub mod Closes

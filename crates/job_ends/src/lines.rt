@@ -5,13 +5,13 @@ ghost use Rattle.pack_mean.specs.Accepted.{differs};
 ghost use Rattle.pack_mean.specs.File as file;
 ghost use Rattle.std.specs.String.{string_bytes};
 ghost use Rattle.std.specs.Fmt.{decimal};
-ghost use Rattle.layer_ast.specs.Spelling as spelling;
+ghost use Rattle.layer_words.specs.Spelling as spelling;
 ghost use Rattle.end_mean.specs.Status as status;
 ghost use Rattle.job_ends.specs.Shown.{file_end};
 
 use file_judge::FileError;
-use layer_ast::{At, Kind};
 use layer_mean::Case;
+use layer_words::{At, Kind};
 use std::alloc::{AllocError, Global};
 
 /// The line of a refused report.
@@ -105,25 +105,5 @@ fn cycle(alloc: Global, place: u8, kind: Kind) -> Result<String, AllocError>
     ensures { IfOk result (λ line. string_bytes line ≡ codes "file: cycle " ++ decimal place ++ codes " " ++
         spelling.kind_word kind ++ codes "\n") }
 {
-    format!(in alloc; "file: cycle {place} {}\n", kind_word(kind))
-}
-
-/// The word of a kind of event.
-fn kind_word(kind: Kind) -> &'static str
-    ensures { result.now ≡ spelling.kind_word kind }
-{
-    match kind {
-        Kind::Cast => "Cast",
-        Kind::Send => "Send",
-        Kind::Timer => "Timer",
-        Kind::Suspect => "Suspect",
-        Kind::Stable => "Stable",
-        Kind::Ack => "Ack",
-        Kind::Elect => "Elect",
-        Kind::Block => "Block",
-        Kind::BlockOk => "BlockOk",
-        Kind::Flushed => "Flushed",
-        Kind::View => "View",
-        Kind::Leave => "Leave",
-    }
+    format!(in alloc; "file: cycle {place} {}\n", kind.word())
 }

@@ -15,7 +15,7 @@ use crate::lines::{
 };
 use file_judge::FileError;
 use layer_mean::Case;
-use outside::{Sink, say_line};
+use outside::{NO_MEMORY, Sink, say_line};
 use std::alloc::Global;
 
 /// The status where a file is refused.
@@ -26,9 +26,6 @@ const SECOND_REFUSED: u8 = 3;
 
 /// The status where a file of traces is refused.
 const TRACES_REFUSED: u8 = 9;
-
-/// The status where memory ran out.
-pub const NO_MEMORY: u8 = 7;
 
 /// Says how a job ended, and answers the program's status.
 pub fn say<E: Sink>(alloc: Global, ending: Ending, err: &mut E) -> u8

@@ -50,7 +50,7 @@ mode_of (Some name) =
     else if bytes_eq name (codes "bypass") then Some bypass
     else None
 
--- the law of `--law`, which has to be given
+-- the law of this name, if there is one
 abbrev pub law_named : Text → Option Law
 law_named name =
     if bytes_eq name (codes "sender") then Some Sender
@@ -58,18 +58,21 @@ law_named name =
     else if bytes_eq name (codes "same") then Some Same
     else None
 
+-- the law of `--law`, which has to be given
 abbrev pub law_of : Option Text → Option Law
 law_of given = do
   name ← given
   law_named name
 
--- the most events of a generated script, turns of a node, and failed receives that it bears
+-- the most events of a generated script
 abbrev pub most_generated : ℕ
 most_generated = 99999
 
+-- the most turns of a node
 abbrev pub most_node_turns : ℕ
 most_node_turns = 1000000
 
+-- the most failed receives that a node may be told to bear
 abbrev pub most_patience : ℕ
 most_patience = 1000
 

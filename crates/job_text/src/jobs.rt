@@ -7,18 +7,20 @@ ghost use Rattle.job_text.specs.Shown.{node_of, shown_given, shown_job, text};
 ghost use Rattle.msg_core.specs.View.{most_members};
 
 use crate::given::Given;
-use crate::named::{Audit, Explain, Job, Load, Node, Replay, ReplayWith};
+use crate::named::{Audit, Explain, Job, Load, NodeJob, Replay, ReplayWith};
 use crate::numbers::{a_number, a_number_or_zero, some_members};
 use audit_mean::Law;
 use group_mean::Mode;
 use msg_core::MOST_MEMBERS;
 use std::alloc::{AllocError, Global};
 
-/// The most events of a generated script, members of a group, turns of a node and failed receives that it bears.
-const MOST_GENERATED: u32 = 99_999;
+/// The most events of a generated script.
+pub const MOST_GENERATED: u32 = 99_999;
 
+/// The most turns of a node.
 const MOST_NODE_TURNS: u32 = 1_000_000;
 
+/// The most failed receives that a node bears.
 const MOST_PATIENCE: u32 = 1_000;
 
 /// The job of what was given, if it is one.
@@ -173,7 +175,7 @@ fn node_of<'w>(given: &Given<'w>, members: Option<Vec<u32>>) -> Option<Job<'w>>
     let members = members?;
     let mode = mode_of(given.run)?;
     let patience = a_number_or_zero(MOST_PATIENCE, given.patience)?;
-    Some(Job::Node(Node {
+    Some(Job::Node(NodeJob {
         file: given.file,
         plan,
         turns,

@@ -11,8 +11,8 @@ mod named;
 mod numbers;
 mod reading;
 
-pub use crate::jobs::law_of;
-pub use crate::named::{Audit, Explain, Job, Load, Node, Replay, ReplayWith};
+pub use crate::jobs::{MOST_GENERATED, law_of};
+pub use crate::named::{Audit, Explain, Job, Load, NodeJob, Replay, ReplayWith};
 pub use crate::numbers::{a_number, a_number_or_zero};
 pub use crate::reading::job;
 pub use audit_mean::Law;

@@ -20,7 +20,7 @@ pub enum Job<'w> {
     ReplayWith(ReplayWith<'w>),
     Explain(Explain<'w>),
     Load(Load<'w>),
-    Node(Node<'w>),
+    Node(NodeJob<'w>),
     Audit(Audit<'w>),
 }
 
@@ -73,7 +73,7 @@ pub struct Load<'w> {
 
 /// Runs members of a group over a network.
 #[derive(Drop)]
-pub struct Node<'w> {
+pub struct NodeJob<'w> {
     pub file: &'w str,
     pub plan: &'w str,
     /// How many turns are made, at most 1,000,000.

@@ -1,13 +1,13 @@
 -- The trees that the statements of a program are, form by form.
 use Rattle.std.proofs.Common.{◌≡◌, Option, option_map, sym, ap, ap₂, ◌∙◌}
-use Rattle.layer_ast.specs.declared.names.At.{At}
+use Rattle.layer_words.specs.declared.places.At.{At}
 use Rattle.layer_ast.specs.declared.names.Name.{Name}
-use Rattle.layer_ast.specs.declared.tokens.Dir.{Dir}
-use Rattle.layer_ast.specs.declared.tokens.Kind.{Kind}
+use Rattle.layer_words.specs.declared.events.Dir.{Dir}
+use Rattle.layer_words.specs.declared.events.Kind.{Kind}
 use Rattle.layer_ast.specs.declared.syntax.Arguments.{Arguments}
 use Rattle.layer_ast.specs.declared.syntax.Block.{Block}
 use Rattle.layer_ast.specs.declared.syntax.Expression.{Expression}
-use Rattle.layer_ast.specs.declared.syntax.Likely.{Likely}
+use Rattle.layer_words.specs.declared.sorts.Likely.{Likely}
 use Rattle.layer_ast.specs.declared.syntax.Names.{Names}
 use Rattle.layer_ast.specs.declared.syntax.Pushed.{Pushed}
 use Rattle.layer_ast.specs.declared.syntax.Queue.{Queue}

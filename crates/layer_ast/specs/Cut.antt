@@ -1,14 +1,28 @@
 -- How a text is cut into tokens.
-use Rattle.std.specs.Prelude.{ℕ, zero, suc, ◌+◌, ◌-◌, Bool, true, false, not, ◌&&◌, nat_eq, nat_lt, nat_le}
-use Rattle.std.specs.Prelude.{if◌then◌else◌, List, [], ◌∷◌, length, take, Option, Some, None}
+use Rattle.std.specs.Prelude.{ℕ, zero, suc, ◌+◌, ◌-◌, ◌*◌, Bool, true, false, not, ◌&&◌, nat_eq, nat_lt, nat_le}
+use Rattle.std.specs.Prelude.{if◌then◌else◌, List, [], ◌∷◌, length, take, find, fold, Option, Some, None}
 use Rattle.std.specs.Char.{is_ascii_alphabetic, is_ascii_digit}
-use Rattle.std.specs.List.{prefix_len}
+use Rattle.std.specs.List.{prefix_len, starts_with}
 use Rattle.std.specs.Option.{option_map_or}
-use Rattle.layer_ast.specs.declared.names.At.{At}
 use Rattle.layer_ast.specs.declared.tokens.Lexed.{Lexed}
 use Rattle.layer_ast.specs.declared.tokens.Token.{Token}
 use Rattle.layer_ast.specs.declared.tokens.Token.TheVariants as token
-use Rattle.layer_ast.specs.Spelling.{is_blank, is_word_byte, word_token, symbol_at, number_of}
+use Rattle.layer_words.specs.declared.places.At.{At}
+use Rattle.layer_words.specs.declared.signs.Sign.{Sign}
+use Rattle.layer_words.specs.Spelling.{is_blank, is_word_byte, reserved, kinds, beside, symbols}
+
+-- the token of a word: that of a reserved one, or else a name
+unfoldable pub word_token : List ℕ → Token
+word_token word = option_map_or token.Sign (beside reserved word)
+    (option_map_or token.Kind (beside kinds word) (token.Name word))
+
+-- the longest symbol that a text begins with, and its bytes
+unfoldable pub symbol_at : List ℕ → Option (List ℕ × Sign)
+symbol_at text = find (λ entry. starts_with nat_eq text entry.0) symbols
+
+-- the number that decimal digits spell
+abbrev pub number_of : List ℕ → ℕ
+number_of digits = fold (λ n digit. 10 * n + (digit - 48)) 0 digits
 
 -- what a text begins with: a gap, a token, or a bad byte; with the number of its bytes after the first
 pub data Piece : Type 0 where

@@ -1,7 +1,7 @@
 -- How deep the brackets of a list of tokens are nested: braces, parentheses and square brackets together.
 use Rattle.std.specs.Prelude.{ℕ, zero, suc, List, [], ◌∷◌, Option, Some, None}
-use Rattle.layer_ast.specs.declared.tokens.Sign.TheVariants.{LeftBrace, RightBrace, LeftParen, RightParen, LeftBracket}
-use Rattle.layer_ast.specs.declared.tokens.Sign.TheVariants.{RightBracket}
+use Rattle.layer_words.specs.declared.signs.Sign.TheVariants.{LeftBrace, RightBrace, LeftParen, RightParen, LeftBracket}
+use Rattle.layer_words.specs.declared.signs.Sign.TheVariants.{RightBracket}
 use Rattle.layer_ast.specs.declared.tokens.Token.{Token}
 use Rattle.layer_ast.specs.declared.tokens.Token.TheVariants as token
 

@@ -3,10 +3,8 @@ pub mod Depth
 pub mod Print
 pub mod Printed
 pub mod Samples
-pub mod Spelling
 pub mod Spells
 pub mod Stops
 pub mod Tree
 pub mod View
-pub mod WordBytes
 pub mod Reader

@@ -1,13 +1,15 @@
 -- The tokens of a tree, each with its place where the tree keeps one. Each function prints before what follows.
 use Rattle.std.specs.Prelude.{List, [], ◌∷◌, Option, Some, None}
 use Rattle.layer_ast.specs.declared.names.Name.{Name}
-use Rattle.layer_ast.specs.declared.tokens.Sign.TheVariants as sign
-use Rattle.layer_ast.specs.declared.syntax.Likely.{Likely}
-use Rattle.layer_ast.specs.declared.syntax.Likely.TheVariants as likely_word
-use Rattle.layer_ast.specs.declared.syntax.Shape.{Shape}
-use Rattle.layer_ast.specs.declared.syntax.Shape.TheVariants.{One, Array, Square}
-use Rattle.layer_ast.specs.Printed.{Printed, plain, placed_sign, numeral, plain_numeral, name, kind, direction_sign}
-use Rattle.layer_ast.specs.Printed.{ending_sign, sort_sign, function_sign, operator_sign}
+use Rattle.layer_words.specs.declared.signs.Sign.TheVariants as sign
+use Rattle.layer_words.specs.declared.sorts.Likely.{Likely}
+use Rattle.layer_words.specs.declared.sorts.Likely.TheVariants as likely_word
+use Rattle.layer_words.specs.declared.sorts.Shape.{Shape}
+use Rattle.layer_words.specs.declared.sorts.Shape.TheVariants.{One, Array, Square}
+use Rattle.layer_ast.specs.Printed.{Printed, plain, placed_sign, numeral, plain_numeral, name, kind}
+use Rattle.layer_words.specs.Signs.{direction_sign}
+use Rattle.layer_ast.specs.Printed.{ending_sign}
+use Rattle.layer_words.specs.Signs.{sort_sign, function_sign, operator_sign}
 use Rattle.layer_ast.specs.Tree as tree
 use Rattle.layer_ast.specs.Tree.{ExpressionTree, QueueTree, MessageTree, BuiltTree, ArgumentTree, NamesTree}
 use Rattle.layer_ast.specs.Tree.{ArgumentsTree, PoppedTree, PushedTree, SizeTree, StatementTree, StatementTrees}

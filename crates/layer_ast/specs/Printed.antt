@@ -1,24 +1,14 @@
--- The tokens that a tree is printed as, and the signs of directions, operators, functions and sorts.
+-- The tokens that a tree is printed as.
 use Rattle.std.specs.Prelude.{ℕ, List, Option, Some, None, filter_map}
-use Rattle.layer_ast.specs.declared.names.At.{At}
 use Rattle.layer_ast.specs.declared.names.Name.{Name}
-use Rattle.layer_ast.specs.declared.tokens.Dir.{Dir}
-use Rattle.layer_ast.specs.declared.tokens.Dir.TheVariants.{Up, Down}
-use Rattle.layer_ast.specs.declared.tokens.Kind.{Kind}
-use Rattle.layer_ast.specs.declared.tokens.Sign.{Sign}
-use Rattle.layer_ast.specs.declared.tokens.Sign.TheVariants as sign
-use Rattle.layer_ast.specs.declared.tokens.Token.{Token}
-use Rattle.layer_ast.specs.declared.tokens.Token.TheVariants as token
 use Rattle.layer_ast.specs.declared.syntax.Ending.{Ending}
 use Rattle.layer_ast.specs.declared.syntax.Ending.TheVariants.{Passes, Ends}
-use Rattle.layer_ast.specs.declared.syntax.Function.{Function}
-use Rattle.layer_ast.specs.declared.syntax.Function.TheVariants.{Not, Bit, Count, Lowest}
-use Rattle.layer_ast.specs.declared.syntax.Operator.{Operator}
-use Rattle.layer_ast.specs.declared.syntax.Operator.TheVariants.{Add, Subtract, Multiply, Equal, NotEqual, Less}
-use Rattle.layer_ast.specs.declared.syntax.Operator.TheVariants.{LessOrEqual, Greater, GreaterOrEqual, And, Or, BitAnd}
-use Rattle.layer_ast.specs.declared.syntax.Operator.TheVariants.{BitOr, BitXor}
-use Rattle.layer_ast.specs.declared.syntax.Sort.{Sort}
-use Rattle.layer_ast.specs.declared.syntax.Sort.TheVariants.{Int, Msg, Part}
+use Rattle.layer_ast.specs.declared.tokens.Token.{Token}
+use Rattle.layer_ast.specs.declared.tokens.Token.TheVariants as token
+use Rattle.layer_words.specs.declared.events.Kind.{Kind}
+use Rattle.layer_words.specs.declared.places.At.{At}
+use Rattle.layer_words.specs.declared.signs.Sign.{Sign}
+use Rattle.layer_words.specs.declared.signs.Sign.TheVariants as sign
 
 -- a token of a tree, and where it stands if the tree says so
 pub record Printed : Type 0 where
@@ -53,42 +43,7 @@ name n = record { token = token.Name n.word; at = Some n.at }
 abbrev pub kind : Kind → Printed
 kind k = record { token = token.Kind k; at = None }
 
--- the word of a direction
-abbrev pub direction_sign : Dir → Sign
-direction_sign Up = sign.Up
-direction_sign Down = sign.Down
-
 -- the word that says whether the headers of the layers above follow a header
 abbrev pub ending_sign : Ending → Sign
 ending_sign Passes = sign.Passes
 ending_sign Ends = sign.Ends
-
--- the word of a sort
-abbrev pub sort_sign : Sort → Sign
-sort_sign Int = sign.Int
-sort_sign Msg = sign.Msg
-sort_sign Part = sign.Part
-
--- the word of a function
-abbrev pub function_sign : Function → Sign
-function_sign Not = sign.Not
-function_sign Bit = sign.Bit
-function_sign Count = sign.Count
-function_sign Lowest = sign.Lowest
-
--- the symbol or word of an operator
-abbrev pub operator_sign : Operator → Sign
-operator_sign Add = sign.Plus
-operator_sign Subtract = sign.Minus
-operator_sign Multiply = sign.Star
-operator_sign Equal = sign.Equal
-operator_sign NotEqual = sign.NotEqual
-operator_sign Less = sign.Less
-operator_sign LessOrEqual = sign.LessEqual
-operator_sign Greater = sign.Greater
-operator_sign GreaterOrEqual = sign.GreaterEqual
-operator_sign And = sign.And
-operator_sign Or = sign.Or
-operator_sign BitAnd = sign.Ampersand
-operator_sign BitOr = sign.Bar
-operator_sign BitXor = sign.Caret

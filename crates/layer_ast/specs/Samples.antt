@@ -1,19 +1,19 @@
 -- Small texts, worked out.
 use Rattle.std.specs.Prelude.{◌≡◌, ℕ, List, [], ◌∷◌, ◌++◌, Some, None, codes, length}
-use Rattle.layer_ast.specs.declared.names.At.{At}
+use Rattle.layer_words.specs.declared.places.At.{At}
 use Rattle.layer_ast.specs.declared.names.Name.{Name}
 use Rattle.layer_ast.specs.declared.tokens.Lexed.{Lexed}
-use Rattle.layer_ast.specs.declared.tokens.Kind.TheVariants as kind
-use Rattle.layer_ast.specs.declared.tokens.Sign.TheVariants as sign
+use Rattle.layer_words.specs.declared.events.Kind.TheVariants as kind
+use Rattle.layer_words.specs.declared.signs.Sign.TheVariants as sign
 use Rattle.layer_ast.specs.declared.tokens.Token.{Token}
 use Rattle.layer_ast.specs.declared.tokens.Token.TheVariants as token
-use Rattle.layer_ast.specs.declared.tokens.Dir.TheVariants.{Up, Down}
+use Rattle.layer_words.specs.declared.events.Dir.TheVariants.{Up, Down}
 use Rattle.layer_ast.specs.declared.syntax.Ending.TheVariants.{Passes}
-use Rattle.layer_ast.specs.declared.syntax.Function.TheVariants.{Not}
-use Rattle.layer_ast.specs.declared.syntax.Likely.TheVariants.{First, Else}
-use Rattle.layer_ast.specs.declared.syntax.Operator.TheVariants.{Add, Equal, Greater}
-use Rattle.layer_ast.specs.declared.syntax.Shape.TheVariants.{Square}
-use Rattle.layer_ast.specs.declared.syntax.Sort.TheVariants.{Msg}
+use Rattle.layer_words.specs.declared.operators.Function.TheVariants.{Not}
+use Rattle.layer_words.specs.declared.sorts.Likely.TheVariants.{First, Else}
+use Rattle.layer_words.specs.declared.operators.Operator.TheVariants.{Add, Equal, Greater}
+use Rattle.layer_words.specs.declared.sorts.Shape.TheVariants.{Square}
+use Rattle.layer_words.specs.declared.sorts.Sort.TheVariants.{Msg}
 use Rattle.layer_ast.specs.Cut.{text_tokens}
 use Rattle.layer_ast.specs.Print.{file}
 use Rattle.layer_ast.specs.Printed.{marks}

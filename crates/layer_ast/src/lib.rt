@@ -1,4 +1,4 @@
-//! The syntax of layer files: its words and signs, its trees with their places in the text, and what it
+//! The syntax of layer files: its tokens, its trees with their places in the text, and what it
 //! is that a text spells a file.
 #![tactic(auto)]
 
@@ -7,10 +7,10 @@ pub mod samples;
 mod syntax;
 mod tokens;
 
-pub use names::{At, LONGEST_WORD, Name, Word};
+pub use names::Name;
 pub use syntax::{
-    Argument, Arguments, Block, Built, Declaration, Ending, Expected, Expression, File, Function,
-    Given, Handler, Item, Items, LONGEST_FILE, Layer, Likely, MessageExpression, Names, Operator,
-    Place, Popped, Pushed, Queue, Shape, Size, Sort, Statement,
+    Argument, Arguments, Block, Built, Declaration, Ending, Expected, Expression, File, Given,
+    Handler, Item, Items, LONGEST_FILE, Layer, MessageExpression, Names, Place, Popped, Pushed,
+    Queue, Size, Statement,
 };
-pub use tokens::{Dir, Kind, Lexed, Sign, Token};
+pub use tokens::{Lexed, Token};

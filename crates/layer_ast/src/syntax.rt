@@ -1,7 +1,7 @@
 //! The trees of a layer file. Each thing that has a place in the text keeps that of its first
 //! token; where the first token is a name, the name keeps it.
-use crate::names::{At, Name};
-use crate::tokens::{Dir, Kind};
+use crate::names::Name;
+use layer_words::{At, Dir, Function, Kind, Likely, Operator, Shape, Sort};
 
 /// The most bytes of a file.
 pub const LONGEST_FILE: u32 = 1_048_576;
@@ -77,16 +77,6 @@ pub enum Declaration {
     },
 }
 
-/// How many numbers a cell of numbers has.
-#[derive(Clone, Copy, PartialEq, Eq, Debug)]
-pub enum Shape {
-    One,
-    /// `[n]`, one for each member.
-    Array,
-    /// `[n*n]`, one for each pair of members.
-    Square,
-}
-
 /// Whether the headers of the layers above follow a header.
 #[derive(Clone, Copy, PartialEq, Eq, Debug)]
 pub enum Ending {
@@ -113,16 +103,6 @@ pub struct Items {
 pub struct Item {
     pub name: Name,
     pub sort: Sort,
-}
-
-/// What an item of a row is.
-#[derive(Clone, Copy, PartialEq, Eq, Debug)]
-pub enum Sort {
-    Int,
-    /// A message with the headers of the layers above.
-    Msg,
-    /// A message of bytes alone.
-    Part,
 }
 
 /// `NAME { "," NAME }`
@@ -238,17 +218,6 @@ pub enum Statement {
         arguments: Arguments,
         pushed: Option<Pushed>,
     },
-}
-
-/// Which way a condition is predicted to go.
-#[derive(Clone, Copy, PartialEq, Eq, Debug)]
-pub enum Likely {
-    /// `"if"`: into the first block.
-    First,
-    /// `"if" "rare"`: past it.
-    Else,
-    /// `"if" "two"`: into the first block in the first of two common cases, past it in the second.
-    Two,
 }
 
 /// `"with" NAME "(" [ arguments ] ")"` of a statement: the header that it puts on.
@@ -391,50 +360,4 @@ pub enum Built {
         first: Box<MessageExpression>,
         second: Box<MessageExpression>,
     },
-}
-
-/// An operator between two numbers.
-#[derive(Clone, Copy, PartialEq, Eq, Hash, Debug)]
-pub enum Operator {
-    /// `+`
-    Add,
-    /// `-`
-    Subtract,
-    /// `*`
-    Multiply,
-    /// `==`
-    Equal,
-    /// `!=`
-    NotEqual,
-    /// `<`
-    Less,
-    /// `<=`
-    LessOrEqual,
-    /// `>`
-    Greater,
-    /// `>=`
-    GreaterOrEqual,
-    /// `and`
-    And,
-    /// `or`
-    Or,
-    /// `&`
-    BitAnd,
-    /// `|`
-    BitOr,
-    /// `^`
-    BitXor,
-}
-
-/// A function of one number.
-#[derive(Clone, Copy, PartialEq, Eq, Hash, Debug)]
-pub enum Function {
-    /// `not`
-    Not,
-    /// `bit`
-    Bit,
-    /// `count`
-    Count,
-    /// `lowest`
-    Lowest,
 }

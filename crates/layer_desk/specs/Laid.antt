@@ -4,7 +4,7 @@ use Rattle.std.specs.Prelude.{slice_index_or}
 use Rattle.msg_core.specs.Chain.{Content, plain, popped, first_of}
 use Rattle.msg_core.specs.Parts as parts
 use Rattle.msg_core.specs.declared.message.Header.{Header}
-use Rattle.layer_ast.specs.declared.tokens.Dir.{Dir}
+use Rattle.layer_words.specs.declared.events.Dir.{Dir}
 use Rattle.layer_mean.specs.declared.run.Event.{Event}
 use Rattle.layer_mean.specs.declared.run.Row.{Row}
 use Rattle.layer_mean.specs.Tree.{TakenTree}

@@ -1,7 +1,7 @@
 -- How the room of a desk is spent, and what it means where there is none.
 use Rattle.std.specs.Prelude.{◌≡◌, ℕ, ◌+◌, ◌<◌, ◌≤◌, List, Option, Result, Ok, Err}
 use Rattle.slot_pool.specs.Held.{Held}
-use Rattle.layer_ast.specs.declared.syntax.Shape.{Shape}
+use Rattle.layer_words.specs.declared.sorts.Shape.{Shape}
 use Rattle.layer_desk.specs.Need.{Layout, Room, Need, most_above}
 use Rattle.layer_desk.specs.declared.no_room.NoRoom.{NoRoom}
 use Rattle.layer_desk.specs.declared.no_room.NoRoom.TheVariants as lack
@@ -43,7 +43,8 @@ abbrev pub Spent : {A : Type 0} → Room → Room → Need → Result A NoRoom �
 Spent old new n (Ok a) = SpentAtMost old new n
 Spent old new n (Err e) = Lacks old n e
 
--- The same of an operation that leaves a message in hand.
+-- Where an operation that leaves a message in hand is done, at most this was spent, places of the hand included; else
+-- there was less than this.
 abbrev pub Lifted : {A : Type 0} → Room → Room → Need → Result A NoRoom → Type 0
 Lifted old new n (Ok a) = LiftedAtMost old new n
 Lifted old new n (Err e) = Lacks old n e

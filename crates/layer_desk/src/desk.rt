@@ -6,7 +6,7 @@ ghost use Rattle.slot_pool.specs.Held.{Held};
 ghost use Rattle.slot_pool.specs.References.{Moved};
 ghost use Rattle.msg_core.specs.Chain.{plain};
 ghost use Rattle.msg_core.specs.Parts as parts;
-ghost use Rattle.layer_ast.specs.declared.syntax.Shape.{Shape};
+ghost use Rattle.layer_words.specs.declared.sorts.Shape.{Shape};
 ghost use Rattle.layer_mean.specs.State.{number_at, flat_index, rows_at, row_at, has_room};
 ghost use Rattle.layer_mean.specs.Value.{number_in, message_in};
 ghost use Rattle.typed_layer.specs.View.{carried_tree, taken_tree};
@@ -23,8 +23,8 @@ ghost use Rattle.layer_desk.specs.Spent.{Begun, SpentAtMost, Spent, Lifted, Suff
 
 use crate::no_room::NoRoom;
 use crate::places::{Queue, RowAt, Sending, Square};
-use layer_ast::Dir;
 use layer_mean::Envelope;
+use layer_words::Dir;
 use msg_core::Fields;
 use slot_pool::Pool;
 use std::marker::Brand;
@@ -280,8 +280,8 @@ pub trait Desk {
             (shown pool.old self.old)) }
         ensures spent { Spent (free pool.old self.old) (free pool.new self.new) one_place result };
 
-    /// The same, and what the visit leaves behind is let go, as `leave` does it. The message goes on from where it
-    /// lies, since the scope doesn't keep it.
+    /// Sends an event with a message of the scope, going down after a header, and lets what the visit leaves behind go,
+    /// as `leave` does it. The message goes on from where it lies, since the scope doesn't keep it.
     fn send_local_and_leave<K: Start>(
         &mut self,
         pool: &mut Pool,

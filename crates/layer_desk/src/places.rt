@@ -1,7 +1,7 @@
 //! What operations name of a layer's cells, and of what is sent.
 
-use layer_ast::Dir;
 use layer_mean::Envelope;
+use layer_words::Dir;
 use msg_core::Header;
 
 /// A row: the cell of its queue, the queue's index there, and how many rows stand before it.

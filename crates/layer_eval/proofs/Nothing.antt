@@ -10,7 +10,7 @@ use Rattle.layer_mean.specs.Tree as tree
 use Rattle.layer_mean.specs.Effect.{Outcome, unusual, taking, decides, in_order, acts, with_taken}
 use Rattle.layer_mean.specs.declared.run.Row.{Row}
 use Rattle.typed_layer.specs.View.{trees, statement_tree, block_tree}
-use Rattle.typed_layer.specs.declared.tree.Block.{Block}
+use Rattle.typed_layer.specs.declared.tree.StatementBlock.{StatementBlock}
 use Rattle.typed_layer.specs.declared.tree.Statement.{Statement}
 use Rattle.layer_desk.specs.Laid.{Laid}
 use Rattle.layer_eval.specs.Did.{Did, FindsNothing, statement_does}
@@ -50,7 +50,7 @@ no_row s cell i k n same many none = ap (rows_at s cell) (sym same) ∙
       go [] none = refl
       go (row ∷ rows) none = absurd (omega (arith, none))
 
-pub no_statements : (block : Block) → true ≡ (vec_len block.statements == 0) → block_tree block ≡ tree.none
+pub no_statements : (block : StatementBlock) → true ≡ (vec_len block.statements == 0) → block_tree block ≡ tree.none
 no_statements block empty =
     let none : vec_len block.statements ≡ 0 = eqb-true (vec_len block.statements) 0 (sym empty) in
     go block.statements.items (omega (arith, none, block.statements.ok.0)) where

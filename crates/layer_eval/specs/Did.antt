@@ -1,7 +1,7 @@
 -- What statements and visits leave at a desk.
 use Rattle.std.specs.Prelude.{◌≡◌, ℕ, Bool, true, false, ◌&&◌, List, [], ◌∷◌, ◌++◌, None}
-use Rattle.layer_ast.specs.declared.syntax.Likely.{Likely}
-use Rattle.layer_ast.specs.declared.syntax.Likely.TheVariants as likely
+use Rattle.layer_words.specs.declared.sorts.Likely.{Likely}
+use Rattle.layer_words.specs.declared.sorts.Likely.TheVariants as likely
 use Rattle.layer_mean.specs.declared.run.Case.TheVariants.{First, Second}
 use Rattle.layer_mean.specs.Tree.{StatementTree, StatementTrees}
 use Rattle.layer_mean.specs.Effect.{Decision, usual, unusual, forked, all_as, Outcome, in_order, does, acts}

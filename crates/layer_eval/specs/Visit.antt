@@ -1,8 +1,8 @@
 -- One visit at a desk, in its parts.
 use Rattle.std.specs.Prelude.{◌≡◌, ℕ, List, [], ◌∷◌, ◌++◌, if◌then◌else◌, Option, Some, None}
 use Rattle.msg_core.specs.Chain.{Content}
-use Rattle.layer_ast.specs.declared.tokens.Dir.{Dir}
-use Rattle.layer_ast.specs.declared.tokens.Dir.TheVariants.{Down}
+use Rattle.layer_words.specs.declared.events.Dir.{Dir}
+use Rattle.layer_words.specs.declared.events.Dir.TheVariants.{Down}
 use Rattle.layer_mean.specs.Tree.{Expected, always, common, rare, HandlerTree, LayerTree}
 use Rattle.layer_mean.specs.Value.{is_true}
 use Rattle.layer_mean.specs.Effect.{Decision, usual, unusual}

@@ -18,12 +18,14 @@ ghost use Rattle.layer_eval.specs.Owed.{sets_number, number_set};
 use crate::message::make;
 use crate::predicted::Predicted;
 use crate::value::{fields, fill, nth_number, number};
-use layer_ast::Kind;
 use layer_desk::{Desk, NoRoom, Queue, Sending, Square, Start};
 use layer_mean::Envelope;
+use layer_words::Kind;
 use msg_core::{Fields, Header};
 use slot_pool::Pool;
-use typed_layer::{Block, Content, Emission, Expression, MessageExpression, Row, Statement};
+use typed_layer::{
+    Content, Emission, Expression, MessageExpression, RowExpression, Statement, StatementBlock,
+};
 
 /// Runs the statements of a block in a statement. Often there are none: these cost no call. Otherwise there is mostly
 /// one: this costs no loop.
@@ -31,7 +33,7 @@ use typed_layer::{Block, Content, Emission, Expression, MessageExpression, Row, 
 #[inline(always)]
 fn run_block<K: Start, D: Desk>(
     place: u8,
-    block: &Block,
+    block: &StatementBlock,
     desk: &mut D,
     pool: &mut Pool,
     predicted: &mut Predicted,
@@ -349,7 +351,7 @@ fn set_square<K: Start, D: Desk>(
 #[inline(never)]
 fn push<K: Start, D: Desk>(
     queue: Queue,
-    row: &Row,
+    row: &RowExpression,
     desk: &mut D,
     pool: &mut Pool,
 ) -> Result<(), NoRoom>
@@ -505,7 +507,7 @@ pub fn no_header() -> Header {
     Header {
         layer: 0,
         tag: 0,
-        fields: Fields::none(),
+        fields: Fields::new(),
     }
 }
 

@@ -13,7 +13,7 @@ use crate::predicted::Predicted;
 use crate::value::number;
 use layer_desk::{Desk, NoRoom, Start};
 use slot_pool::Pool;
-use typed_layer::{Block, Statement};
+use typed_layer::{Statement, StatementBlock};
 
 /// Runs a handler's block, or a block with which one ends, of the layer at a place; keeps account of whether all has
 /// gone as predicted; and lets go what the visit leaves, with an emission that is yet to go.
@@ -21,7 +21,7 @@ use typed_layer::{Block, Statement};
 #[inline(always)]
 pub fn run_last_block<K: Start, D: Desk>(
     place: u8,
-    block: &Block,
+    block: &StatementBlock,
     pending: &mut Owed,
     desk: &mut D,
     pool: &mut Pool,

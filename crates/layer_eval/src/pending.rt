@@ -7,9 +7,9 @@ ghost use Rattle.layer_desk.specs.Spent.{Spent};
 ghost use Rattle.layer_eval.specs.Owed.{with_debt_paid};
 
 use crate::effect::{envelope, no_header, write_header};
-use layer_ast::{Dir, Kind};
 use layer_desk::{Desk, NoRoom, Sending, Start};
 use layer_mean::Envelope;
+use layer_words::{Dir, Kind};
 use slot_pool::Pool;
 use std::marker::Model;
 use typed_layer::{Emission, MessageExpression};
@@ -47,7 +47,7 @@ impl Owed {
     ghost use Rattle.layer_eval.specs.Owed.{with_debt_paid, owing, IsPutOff, may_wait};
 
     /// Nothing is owed.
-    pub fn nothing() -> Owed
+    pub fn new() -> Owed
         ensures { result ≡ None }
     {
         Owed {

@@ -3,7 +3,7 @@
 ghost use Rattle.std.specs.Prelude.{◌≡◌, false, [], ◌∷◌};
 ghost use Rattle.layer_eval.specs.Did.{both, as_predicted, decision};
 
-use layer_ast::Likely;
+use layer_words::Likely;
 
 /// Whether all decisions went as predicted, in the first of two common cases and in the second. A layer that names one
 /// case is predicted alike in both.

@@ -15,9 +15,9 @@ use crate::last::run_last_block;
 use crate::pending::Owed;
 use crate::predicted::Predicted;
 use crate::value::number;
-use layer_ast::Dir;
 use layer_desk::{Desk, NoRoom, Sending, Start};
 use layer_mean::Envelope;
+use layer_words::Dir;
 use msg_core::{Fields, Header};
 use slot_pool::Pool;
 use std::marker::Brand;
@@ -87,7 +87,8 @@ pub fn take_event<D: Desk>(
     }
 }
 
-/// The same; where a handler's block lacks room, it answers what is lacking.
+/// A layer takes an event, whose message has arrived at its desk, and says whether that went as predicted; where a
+/// handler's block lacks room, it answers what is lacking.
 fn take_from<K: Start, D: Desk>(
     visit: &Visit,
     layer: &TypedLayer,
@@ -108,7 +109,7 @@ fn take_from<K: Start, D: Desk>(
         (need_of_visit K.begun.layout (layer_tree layer.now) visit.now.direction visit.now.envelope
         (D.shown pool.old desk.old)) result }
 {
-    let mut fields = Fields::none();
+    let mut fields = Fields::new();
     let tag = meet::<K, D>(visit.direction, desk, pool, &mut fields);
     match layer
         .handlers
@@ -159,7 +160,7 @@ fn run_handler<K: Start, D: Desk>(
 {
     desk.enter::<K>(pool, visit.envelope, fields, handler);
     let mut predicted = expect::<K, D>(&handler.expected, desk, pool);
-    let mut owed = Owed::nothing();
+    let mut owed = Owed::new();
     run_last_block::<K, D>(
         visit.place,
         &handler.block,
@@ -217,7 +218,7 @@ fn pass<K: Start, D: Desk>(
         header: Header {
             layer: visit.place,
             tag: 0,
-            fields: Fields::none(),
+            fields: Fields::new(),
         },
     };
     desk.pass_on::<K>(pool, &passed)?;

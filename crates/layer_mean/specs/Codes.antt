@@ -5,15 +5,15 @@ use Rattle.std.proofs.Common.{sym, ap, subst, arith}
 use mathlib.Core.Logic.{inl, inr}
 use base.Stored.{Gv, gnil, gnum, gcons, coded_unit}
 use Rattle.msg_core.specs.declared.message.Header.{Header}
-use Rattle.layer_ast.specs.declared.tokens.Dir.{Dir}
-use Rattle.layer_ast.specs.declared.tokens.Kind.{Kind}
-use Rattle.layer_ast.specs.declared.syntax.Shape.{Shape}
-use Rattle.layer_ast.specs.contracts.tokens.Dir as dir
-use Rattle.layer_ast.specs.contracts.tokens.Kind as kind
-use Rattle.layer_ast.specs.contracts.syntax.Function as function
-use Rattle.layer_ast.specs.contracts.syntax.Likely as likely
-use Rattle.layer_ast.specs.contracts.syntax.Operator as operator
-use Rattle.layer_ast.specs.contracts.syntax.Shape as shape
+use Rattle.layer_words.specs.declared.events.Dir.{Dir}
+use Rattle.layer_words.specs.declared.events.Kind.{Kind}
+use Rattle.layer_words.specs.declared.sorts.Shape.{Shape}
+use Rattle.layer_words.specs.contracts.events.Dir as dir
+use Rattle.layer_words.specs.contracts.events.Kind as kind
+use Rattle.layer_words.specs.contracts.operators.Function as function
+use Rattle.layer_words.specs.contracts.sorts.Likely as likely
+use Rattle.layer_words.specs.contracts.operators.Operator as operator
+use Rattle.layer_words.specs.contracts.sorts.Shape as shape
 use Rattle.layer_mean.specs.Tree.{Carried, part, whole, ExpressionTree, number, me, count, ltime, local, element}
 use Rattle.layer_mean.specs.Tree.{square, rows, item, size, binary, apply, pick, MessageTree, message, nothing, held}
 use Rattle.layer_mean.specs.Tree.{cut, tail, join, ContentTree, EmissionTree, RowTree, TakenTree, StatementTree, bind}
@@ -56,6 +56,7 @@ abbrev carried_by : Option (List Header) → Carried
 carried_by None = part
 carried_by (Some blank) = whole blank
 
+-- What a queue carries is had back from the headers that it keeps for a missing row, if it keeps any.
 pub carried_back : (c : Carried) → carried_by (blanks_of c) ≡ c
 carried_back part = refl
 carried_back (whole blank) = refl
@@ -65,6 +66,7 @@ carried_code = code_by (Option (List Header)) (coded_option (coded_list header_c
 
 -- Expressions and messages.
 abbrev mutual
+  -- The tree of numbers for an expression: at its root the number of the form, after it the parts.
   pub expression_at : ExpressionTree → Gv
   expression_at (number n) = node 0 (gnum n)
   expression_at me = node 1 gnil
@@ -82,6 +84,7 @@ abbrev mutual
   expression_at (apply f e) = node 11 (gcons (function.the_row.coded.code f) (expression_at e))
   expression_at (pick c a b) = node 12 (gcons (expression_at c) (gcons (expression_at a) (expression_at b)))
 
+  -- The tree of numbers for a message expression: at its root the number of the form, after it the parts.
   pub message_at : MessageTree → Gv
   message_at (message k) = node 0 (gnum k)
   message_at nothing = node 1 gnil
@@ -92,6 +95,7 @@ abbrev mutual
   message_at (join a b) = node 5 (gcons (message_at a) (message_at b))
 
 mutual
+  -- Two expressions with one tree of numbers are one expression.
   pub expression_one : (x y : ExpressionTree) → expression_at x ≡ expression_at y → x ≡ y
   expression_one (number m) (number n) p = ap (λ g. number (value (rest g))) p
   expression_one me me p = refl
@@ -123,6 +127,7 @@ mutual
       (expression_one b v (ap (λ g. rest (rest (rest g))) p) k)
   expression_one x y p = let apart = ap root p in absurd (omega arith)
 
+  -- Two message expressions with one tree of numbers are one message expression.
   pub message_one : (x y : MessageTree) → message_at x ≡ message_at y → x ≡ y
   message_one (message m) (message n) p = ap (λ g. message (value (rest g))) p
   message_one nothing nothing p = refl
@@ -140,9 +145,11 @@ mutual
       join (message_one a u (ap (λ g. first (rest g)) p) k) (message_one b v (ap (λ g. rest (rest g)) p) k)
   message_one x y p = let apart = ap root p in absurd (omega arith)
 
+-- Expressions as trees of numbers, one to one.
 abbrev pub expression_code : Coded ExpressionTree
 expression_code = record { code = expression_at; inj = expression_one }
 
+-- Message expressions as trees of numbers, one to one.
 abbrev pub message_code : Coded MessageTree
 message_code = record { code = message_at; inj = message_one }
 
@@ -171,6 +178,7 @@ taken_code = code_by (List ℕ × Option (ℕ × Carried))
 
 -- Statements and blocks.
 abbrev mutual
+  -- The tree of numbers for a statement: at its root the number of the form, after it the parts and the blocks.
   pub statement_at : StatementTree → Gv
   statement_at (bind k e) = node 0 (gcons (gnum k) (expression_at e))
   statement_at (assign c i e) = node 1 (gcons (gnum c) (gcons (expression_at i) (expression_at e)))
@@ -189,6 +197,7 @@ abbrev mutual
       node 6 (gcons (gcons (gnum k) (gnum most)) (gcons (expression_at below) (block_at block)))
   statement_at (emit e) = node 7 (emission_code.code e)
 
+  -- The trees of numbers for the statements of a block, in order.
   pub block_at : StatementTrees → Gv
   block_at none = gnil
   block_at (more x xs) = gcons (statement_at x) (block_at xs)
@@ -199,6 +208,7 @@ IsMore gnil = ⊥
 IsMore (gnum n) = ⊥
 
 mutual
+  -- Two statements with one tree of numbers are one statement.
   pub statement_one : (x y : StatementTree) → statement_at x ≡ statement_at y → x ≡ y
   statement_one (bind m a) (bind n u) p = λ k.
       bind (value (first (rest (p k)))) (expression_one a u (ap (λ g. rest (rest g)) p) k)
@@ -231,12 +241,14 @@ mutual
   statement_one (emit a) (emit u) p = λ k. emit (emission_code.inj a u (ap rest p) k)
   statement_one x y p = let apart = ap root p in absurd (omega arith)
 
+  -- Two blocks with one tree of numbers have the same statements in the same order.
   pub block_one : (x y : StatementTrees) → block_at x ≡ block_at y → x ≡ y
   block_one none none p = refl
   block_one (more x xs) (more y ys) p = λ k. more (statement_one x y (ap first p) k) (block_one xs ys (ap rest p) k)
   block_one none (more y ys) p = absurd (subst IsMore (sym p) tt)
   block_one (more x xs) none p = absurd (subst IsMore p tt)
 
+-- Blocks of statements as trees of numbers, one to one.
 abbrev pub block_code : Coded StatementTrees
 block_code = record { code = block_at; inj = block_one }
 
@@ -251,6 +263,7 @@ expected_of (inl u) = always
 expected_of (inr (inl e)) = common e
 expected_of (inr (inr u)) = rare
 
+-- When a handler goes as predicted is had back from its parts.
 pub expected_back : (e : Expected) → expected_of (expected_parts e) ≡ e
 expected_back always = refl
 expected_back (common e) = refl
@@ -296,6 +309,7 @@ form_of (inl (shape, initial)) = numbers shape initial
 form_of (inr (inl (capacity, items))) = queue capacity items
 form_of (inr (inr (capacity, items))) = queues capacity items
 
+-- The form of a cell is had back from its parts.
 pub form_back : (f : Form) → form_of (form_parts f) ≡ f
 form_back (numbers shape initial) = refl
 form_back (queue capacity items) = refl
@@ -317,6 +331,7 @@ abbrev declared_code : Coded HeaderTree
 declared_code = code_by (List ℕ × (ℕ × Bool)) (coded× (coded_list coded_ℕ) (coded× coded_ℕ coded_bool))
     (λ h. (h.name, (h.fields, h.ends))) (λ p. record { name = p.0; fields = p.1.0; ends = p.1.1 }) (λ _. refl)
 
+-- Layers at their places as trees of numbers, one to one: name, cells, headers and handlers.
 abbrev pub layer_code : Coded LayerTree
 layer_code = code_by (List ℕ × (List CellTree × (List HeaderTree × List HandlerTree)))
     (coded× (coded_list coded_ℕ)
@@ -324,6 +339,6 @@ layer_code = code_by (List ℕ × (List CellTree × (List HeaderTree × List Han
     (λ l. (l.name, (l.cells, (l.headers, l.handlers))))
     (λ p. record { name = p.0; cells = p.1.0; headers = p.1.1.0; handlers = p.1.1.1 }) (λ _. refl)
 
--- A stack.
+-- A stack as a tree of numbers: its layers, lowest first.
 abbrev pub stack_code : Coded (List LayerTree)
 stack_code = coded_list layer_code

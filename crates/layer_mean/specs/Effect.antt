@@ -5,10 +5,10 @@ use Rattle.std.specs.List.{fold, list_all, position}
 use Rattle.std.specs.Option.{option_map_or}
 use Rattle.msg_core.specs.Chain.{Content, pushed}
 use Rattle.msg_core.specs.declared.message.Header.{Header}
-use Rattle.layer_ast.specs.declared.tokens.Dir.{Dir}
-use Rattle.layer_ast.specs.declared.tokens.Dir.TheVariants.{Up, Down}
-use Rattle.layer_ast.specs.declared.syntax.Likely.{Likely}
-use Rattle.layer_ast.specs.declared.syntax.Likely.TheVariants as likely
+use Rattle.layer_words.specs.declared.events.Dir.{Dir}
+use Rattle.layer_words.specs.declared.events.Dir.TheVariants.{Up, Down}
+use Rattle.layer_words.specs.declared.sorts.Likely.{Likely}
+use Rattle.layer_words.specs.declared.sorts.Likely.TheVariants as likely
 use Rattle.layer_mean.specs.declared.run.Case.{Case}
 use Rattle.layer_mean.specs.declared.run.Case.TheVariants.{First, Second}
 use Rattle.layer_mean.specs.declared.run.Event.{Event}
@@ -35,10 +35,11 @@ went_as First (forked Second) = false
 went_as Second (forked First) = false
 went_as Second (forked Second) = true
 
--- Whether all decisions went as predicted in a case, and the number of the first that didn't, counted from 0.
+-- Whether all decisions went as predicted in a case.
 abbrev pub all_as : Case → List Decision → Bool
 all_as case decided = list_all (went_as case) decided
 
+-- The number of the first decision that didn't go as predicted in a case, counted from 0, if there is one.
 abbrev pub first_missed : Case → List Decision → Option ℕ
 first_missed case decided = position (λ d. not (went_as case d)) decided
 
@@ -71,10 +72,11 @@ in_order acts s l = fold after (done s l) acts
 abbrev pub decides : Decision → Outcome → Outcome
 decides d o = record o { decided = d ∷ o.decided }
 
--- A scope with a number in a slot, and with a message in one.
+-- A scope with this number in slot k; a slot outside changes nothing.
 abbrev pub with_slot : ℕ → ℕ → Scope → Scope
 with_slot k v l = record l { numbers = slice_set l.numbers k v }
 
+-- A scope with this message in slot k; a slot outside changes nothing.
 abbrev pub with_message : ℕ → Content → Scope → Scope
 with_message k m l = record l { messages = slice_set l.messages k m }
 

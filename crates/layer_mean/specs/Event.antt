@@ -1,8 +1,8 @@
 -- What the events of each kind have.
 use Rattle.std.specs.Prelude.{ℕ, Bool, true, false, if◌then◌else◌, List, [], ◌∷◌, slice_index, Option}
 use Rattle.msg_core.specs.Chain.{Content}
-use Rattle.layer_ast.specs.declared.tokens.Kind.{Kind}
-use Rattle.layer_ast.specs.declared.tokens.Kind.TheVariants.{Cast, Send, Stable, Ack}
+use Rattle.layer_words.specs.declared.events.Kind.{Kind}
+use Rattle.layer_words.specs.declared.events.Kind.TheVariants.{Cast, Send, Stable, Ack}
 use Rattle.layer_mean.specs.declared.run.Event.{Event}
 
 -- Whether the events of a kind carry a message: casts and sends do.
@@ -20,6 +20,7 @@ arguments_for Stable e = e.a ∷ e.b ∷ []
 arguments_for Ack e = e.a ∷ e.b ∷ []
 arguments_for _ e = e.a ∷ []
 
+-- The number arguments of an event, by its own kind.
 abbrev pub arguments : Event → List ℕ
 arguments e = arguments_for e.kind e
 

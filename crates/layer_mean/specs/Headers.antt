@@ -11,11 +11,12 @@ header_none = record { name = codes "none"; fields = 0; ends = false }
 abbrev pub header_of_tag : LayerTree → ℕ → Option HeaderTree
 header_of_tag layer tag = slice_get (header_none ∷ layer.headers) tag
 
--- What a popped header says; where there is none the tag is 0, and there are no fields.
+-- The tag of a popped header; 0, which is that of `none`, where there is no header.
 abbrev pub said_tag : Option Header → ℕ
 said_tag None = 0
 said_tag (Some h) = h.tag
 
+-- The fields of a popped header; none where there is no header.
 abbrev pub said_fields : Option Header → List ℕ
 said_fields None = []
 said_fields (Some h) = h.fields

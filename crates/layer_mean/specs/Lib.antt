@@ -2,6 +2,7 @@ pub mod Event
 pub mod Envelope
 pub mod Tree
 pub mod Headers
+pub mod Limits
 pub mod State
 pub mod Value
 pub mod Effect

@@ -1,7 +1,7 @@
 -- Who made what: a player of the queue with a log of its visits and outputs, and of the maker of each.
 use Rattle.std.specs.Prelude.{ℕ, List, [], ◌∷◌, ◌++◌, map, length, Option, Some, None}
 use Rattle.std.specs.List.{enumerate_from}
-use Rattle.layer_ast.specs.declared.tokens.Dir.{Dir}
+use Rattle.layer_words.specs.declared.events.Dir.{Dir}
 use Rattle.layer_mean.specs.Queue.{Task, Turn, Player, Line, starting}
 
 -- The maker of an event: a visit, counted from 0 in the order of visits, and an emission of it, counted from 0 in the
@@ -33,6 +33,8 @@ marked_sent visit sent =
     map (λ x. (x.1.0, record { event = x.1.1; made_by = Some (record { visit = visit; emission = x.0 }) }))
     (enumerate_from 0 sent)
 
+-- What a logged visit leaves: the world after it, the log with this visit as its last, and what it sent, each emission
+-- marked with the number of the visit.
 abbrev pub marked_turn : {W E : Type 0} → Log W E → Logged E → Turn W E → Turn (Log W E) (Marked E)
 marked_turn log entry turn = record {
   world = record { world = turn.world; visits = log.visits ++ entry ∷ []; outs = log.outs };

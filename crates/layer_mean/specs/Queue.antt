@@ -3,8 +3,8 @@
 -- an output.
 use Rattle.std.specs.Prelude.{ℕ, suc, zero, ◌+◌, ◌-◌, List, [], ◌∷◌, ◌++◌, map, length, Bool, true, false, nat_le, ◌&&◌}
 use Rattle.std.specs.Prelude.{if◌then◌else◌, slice_index_or, slice_set}
-use Rattle.layer_ast.specs.declared.tokens.Dir.{Dir}
-use Rattle.layer_ast.specs.declared.tokens.Dir.TheVariants.{Up, Down}
+use Rattle.layer_words.specs.declared.events.Dir.{Dir}
+use Rattle.layer_words.specs.declared.events.Dir.TheVariants.{Up, Down}
 use Rattle.layer_mean.specs.declared.run.Case.{Case}
 use Rattle.layer_mean.specs.declared.run.Event.{Event}
 use Rattle.layer_mean.specs.Tree.{LayerTree, no_layer}
@@ -58,6 +58,7 @@ advance places play t rest w = if is_place places t.at
     then taken_turn t.at rest (play.visit t.at t.dir t.event w)
     else record { world = play.output t.dir t.event w; tasks = rest }
 
+-- One turn with these tasks pending: the first of them is taken, if there is one.
 abbrev pub next_of : {W E : Type 0} → ℕ → Player W E → List (Task E) → W → Line W E
 next_of places play [] w = record { world = w; tasks = [] }
 next_of places play (t ∷ rest) w = advance places play t rest w
@@ -84,13 +85,16 @@ pub record Work : Type 0 where
   pub decided : List Decision
   pub visits : ℕ
 
--- The layer and the state at a place of the queue.
+-- The layer at a place of the queue; place 1 is that of the lowest layer.
 abbrev pub layer_at : List LayerTree → ℕ → LayerTree
 layer_at stack at = slice_index_or stack (at - 1) no_layer
 
+-- The state of the layer at a place of the queue; place 1 is that of the lowest layer.
 abbrev pub state_at : Work → ℕ → State
 state_at w at = slice_index_or w.states (at - 1) no_state
 
+-- What a visit leaves of the work of the layers: the new state at its place, its decisions after the earlier ones, one
+-- more visit, and what it sent.
 abbrev pub visit_turn : ℕ → Work → Visited → Turn Work Event
 visit_turn at w v = record {
   world = record {
@@ -109,10 +113,11 @@ layers stack = record {
   output = λ dir event w. record w { outs = w.outs ++ (dir, event) ∷ [] };
 }
 
--- The work before a run of layers in these states, and a line with one task.
+-- The work before a run of layers in these states: nothing came out, nothing was decided, no visit was made.
 abbrev pub unstarted_work : List State → Work
 unstarted_work states = record { states = states; outs = []; decided = []; visits = 0 }
 
+-- A world with one pending task.
 abbrev pub starting : {W E : Type 0} → W → Task E → Line W E
 starting w first = record { world = w; tasks = first ∷ [] }
 

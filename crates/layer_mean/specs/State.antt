@@ -1,8 +1,8 @@
 -- The state of one layer of one member.
 use Rattle.std.specs.Prelude.{ℕ, ◌+◌, ◌*◌, Bool, ◌&&◌, nat_lt, if◌then◌else◌, List, [], ◌∷◌, ◌++◌, length, drop}
 use Rattle.std.specs.Prelude.{slice_get, slice_index, slice_index_or, slice_set, Option}
-use Rattle.layer_ast.specs.declared.syntax.Shape.{Shape}
-use Rattle.layer_ast.specs.declared.syntax.Shape.TheVariants.{One, Array, Square}
+use Rattle.layer_words.specs.declared.sorts.Shape.{Shape}
+use Rattle.layer_words.specs.declared.sorts.Shape.TheVariants.{One, Array, Square}
 use Rattle.layer_mean.specs.declared.run.Row.{Row}
 
 -- What a cell holds: its numbers by their flat index, or the rows of its queue or of each queue of its array, the front
@@ -80,10 +80,11 @@ with_queue i rows (queues qs) = queues (slice_set qs i rows)
 abbrev pub with_rows : State → ℕ → ℕ → List Row → State
 with_rows s c i rows = with_cell s c (with_queue i rows (cell_at s c))
 
--- A state with a row at the back of queue i of cell c, and one without its front row.
+-- A state with this row at the back of queue i of cell c.
 abbrev pub with_row : State → ℕ → ℕ → Row → State
 with_row s c i row = with_rows s c i (rows_at s c i ++ row ∷ [])
 
+-- A state without the front row of queue i of cell c; an empty queue stays empty.
 abbrev pub without_front : State → ℕ → ℕ → State
 without_front s c i = with_rows s c i (drop 1 (rows_at s c i))
 

@@ -2,12 +2,12 @@
 -- it, and nothing points or owns. What layers mean is defined on these trees.
 use Rattle.std.specs.Prelude.{ℕ, List, [], Option, Bool}
 use Rattle.msg_core.specs.declared.message.Header.{Header}
-use Rattle.layer_ast.specs.declared.tokens.Dir.{Dir}
-use Rattle.layer_ast.specs.declared.tokens.Kind.{Kind}
-use Rattle.layer_ast.specs.declared.syntax.Function.{Function}
-use Rattle.layer_ast.specs.declared.syntax.Likely.{Likely}
-use Rattle.layer_ast.specs.declared.syntax.Operator.{Operator}
-use Rattle.layer_ast.specs.declared.syntax.Shape.{Shape}
+use Rattle.layer_words.specs.declared.events.Dir.{Dir}
+use Rattle.layer_words.specs.declared.events.Kind.{Kind}
+use Rattle.layer_words.specs.declared.operators.Function.{Function}
+use Rattle.layer_words.specs.declared.sorts.Likely.{Likely}
+use Rattle.layer_words.specs.declared.operators.Operator.{Operator}
+use Rattle.layer_words.specs.declared.sorts.Shape.{Shape}
 
 -- What the rows of a queue carry beside their numbers: a part, or a message of the layers above. For such a message it
 -- keeps the headers that stand in for a missing row: `none` for each place above.

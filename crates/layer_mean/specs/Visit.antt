@@ -6,11 +6,11 @@ use Rattle.std.specs.List.{find}
 use denote.Enum.Bare.{sameb}
 use Rattle.msg_core.specs.Chain.{Content, plain, pushed, popped, first_of}
 use Rattle.msg_core.specs.declared.message.Header.{Header}
-use Rattle.layer_ast.specs.declared.tokens.Dir.{Dir}
-use Rattle.layer_ast.specs.declared.tokens.Dir.TheVariants.{Up, Down}
-use Rattle.layer_ast.specs.contracts.tokens.Dir as dir_row
-use Rattle.layer_ast.specs.declared.tokens.Kind.{Kind}
-use Rattle.layer_ast.specs.contracts.tokens.Kind as kind_row
+use Rattle.layer_words.specs.declared.events.Dir.{Dir}
+use Rattle.layer_words.specs.declared.events.Dir.TheVariants.{Up, Down}
+use Rattle.layer_words.specs.contracts.events.Dir as dir_row
+use Rattle.layer_words.specs.declared.events.Kind.{Kind}
+use Rattle.layer_words.specs.contracts.events.Kind as kind_row
 use Rattle.layer_mean.specs.declared.run.Event.{Event}
 use Rattle.layer_mean.specs.Event.{arguments}
 use Rattle.layer_mean.specs.Tree.{Expected, always, common, rare, HandlerTree, Form, numbers, queue, queues, LayerTree}
@@ -19,10 +19,11 @@ use Rattle.layer_mean.specs.State.{State, Contents, size_of}
 use Rattle.layer_mean.specs.Value.{Scope, is_true, val}
 use Rattle.layer_mean.specs.Effect.{Decision, usual, unusual, Outcome, decides, in_order, acts}
 
--- A scope without names, and a state without cells.
+-- A scope without numbers and messages.
 abbrev pub no_scope : Scope
 no_scope = record { numbers = []; messages = [] }
 
+-- A state without cells, at the member of rank `me` of n, in the view of this ltime.
 abbrev pub bare_state : ℕ → ℕ → ℕ → State
 bare_state me n ltime = record { me = me; count = n; ltime = ltime; cells = [] }
 
@@ -54,15 +55,18 @@ abbrev pub following : Option Header → Content → Met
 following None m = record { tag = 0; fields = []; message = Some m }
 following (Some h) m = record { tag = h.tag; fields = h.fields; message = Some m }
 
+-- The message of an event, if it has one, as its layer meets it: going up its first header is popped, if there is one;
+-- going down none is.
 abbrev pub met : Dir → Option Content → Met
 met dir None = record { tag = 0; fields = []; message = None }
 met Up (Some m) = following (first_of m.headers) (popped m)
 met Down (Some m) = following None m
 
--- Whether a handler is for this direction, kind and popped tag, and the handler of a layer that is.
+-- Whether a handler is for this direction, kind and popped tag.
 abbrev pub is_for : Dir → Kind → ℕ → HandlerTree → Bool
 is_for dir kind tag h = sameb dir_row.the_type h.direction dir && sameb kind_row.the_type h.kind kind && (h.tag == tag)
 
+-- The first handler of a layer for this direction, kind and popped tag, if it has one.
 abbrev pub handler_for : LayerTree → Dir → Kind → ℕ → Option HandlerTree
 handler_for layer dir kind tag = find (is_for dir kind tag) layer.handlers
 

@@ -3,7 +3,7 @@
 use Rattle.std.specs.Prelude.{ℕ, ◌+◌, Bool, true, false, List, [], ◌∷◌, ◌++◌, length, Option, Some, None}
 use Rattle.std.specs.List.{sum_by}
 use Rattle.std.specs.Option.{option_map_or}
-use Rattle.layer_ast.specs.declared.syntax.Likely.TheVariants as likely
+use Rattle.layer_words.specs.declared.sorts.Likely.TheVariants as likely
 use Rattle.layer_mean.specs.declared.run.Case.{Case}
 use Rattle.layer_mean.specs.declared.run.Case.TheVariants.{First, Second}
 use Rattle.layer_mean.specs.Tree.{ExpressionTree, EmissionTree, RowTree, TakenTree, StatementTree, bind, assign}
@@ -46,12 +46,14 @@ abbrev mutual
   ways case none = []
   ways case (more x rest) = way case x ++ ways case rest
 
--- The steps of a handler; a rare one has no predicted way.
+-- The predicted way of a handler whose block has these steps: a common case is tested before them, and a rare handler
+-- has no way.
 abbrev pub expected_way : Expected → List Step → Option (List Step)
 expected_way always steps = Some steps
 expected_way (common e) steps = Some (test true e ∷ steps)
 expected_way rare steps = None
 
+-- The predicted way of a handler in a case, if it has one.
 abbrev pub handler_way : Case → HandlerTree → Option (List Step)
 handler_way case h = expected_way h.expected (ways case h.block)
 

@@ -1,6 +1,6 @@
 //! Events without their messages.
 
-use layer_ast::Kind;
+use layer_words::Kind;
 
 /// An event of which all but its message is known. Numbers that its kind doesn't have are 0.
 #[derive(Clone, Copy, Debug, PartialEq, Eq)]

@@ -1,6 +1,6 @@
 //! What layers exchange, and what their queues keep.
 
-use layer_ast::Kind;
+use layer_words::Kind;
 use msg_core::{Fields, Message};
 
 /// Which of a layer's common cases is predicted: a condition with two predicted ways goes into its first block in the

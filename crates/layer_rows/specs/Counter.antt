@@ -1,11 +1,11 @@
 -- The counter layer: each cast carries the sender's count `k`, and `e` has the number that is due from each member.
 use Rattle.std.specs.Prelude.{◌≡◌, ℕ, List, [], ◌∷◌, codes, Some}
 use Rattle.msg_core.specs.Chain.{Content, plain}
-use Rattle.layer_ast.specs.declared.tokens.Dir.{Dir}
-use Rattle.layer_ast.specs.declared.tokens.Dir.TheVariants.{Up, Down}
-use Rattle.layer_ast.specs.declared.tokens.Kind.TheVariants.{Cast}
-use Rattle.layer_ast.specs.declared.syntax.Operator.TheVariants.{Add, Equal}
-use Rattle.layer_ast.specs.declared.syntax.Shape.TheVariants.{Array}
+use Rattle.layer_words.specs.declared.events.Dir.{Dir}
+use Rattle.layer_words.specs.declared.events.Dir.TheVariants.{Up, Down}
+use Rattle.layer_words.specs.declared.events.Kind.TheVariants.{Cast}
+use Rattle.layer_words.specs.declared.operators.Operator.TheVariants.{Add, Equal}
+use Rattle.layer_words.specs.declared.sorts.Shape.TheVariants.{Array}
 use Rattle.layer_mean.specs.declared.run.Event.{Event}
 use Rattle.layer_mean.specs.Tree.{number, local, element, binary, assign, emit, always, common, numbers, LayerTree}
 use Rattle.layer_mean.specs.State.{State}

@@ -2,10 +2,10 @@
 -- than those of even ones.
 use Rattle.std.specs.Prelude.{◌≡◌, ℕ, ◌+◌, Bool, true, false, List, [], ◌∷◌, codes, Option, Some, None}
 use Rattle.msg_core.specs.Chain.{plain, pushed}
-use Rattle.layer_ast.specs.declared.tokens.Dir.TheVariants.{Down}
-use Rattle.layer_ast.specs.declared.tokens.Kind.TheVariants.{Cast}
-use Rattle.layer_ast.specs.declared.syntax.Likely.TheVariants.{Two}
-use Rattle.layer_ast.specs.declared.syntax.Operator.TheVariants.{Add, BitAnd, Equal}
+use Rattle.layer_words.specs.declared.events.Dir.TheVariants.{Down}
+use Rattle.layer_words.specs.declared.events.Kind.TheVariants.{Cast}
+use Rattle.layer_words.specs.declared.sorts.Likely.TheVariants.{Two}
+use Rattle.layer_words.specs.declared.operators.Operator.TheVariants.{Add, BitAnd, Equal}
 use Rattle.layer_mean.specs.declared.run.Case.TheVariants.{First, Second}
 use Rattle.layer_mean.specs.Tree.{number, me, local, element, binary, assign, branch, emit, Expected, always, common}
 use Rattle.layer_mean.specs.Tree.{LayerTree}

@@ -1,9 +1,9 @@
 -- A layer that has no handler for an event, in each of its four cases; and loops.
 use Rattle.std.specs.Prelude.{◌≡◌, ℕ, [], ◌∷◌, codes}
 use Rattle.msg_core.specs.Chain.{plain, pushed}
-use Rattle.layer_ast.specs.declared.tokens.Dir.TheVariants.{Up, Down}
-use Rattle.layer_ast.specs.declared.tokens.Kind.TheVariants.{Cast, Ack}
-use Rattle.layer_ast.specs.declared.syntax.Operator.TheVariants.{Add}
+use Rattle.layer_words.specs.declared.events.Dir.TheVariants.{Up, Down}
+use Rattle.layer_words.specs.declared.events.Kind.TheVariants.{Cast, Ack}
+use Rattle.layer_words.specs.declared.operators.Operator.TheVariants.{Add}
 use Rattle.layer_mean.specs.Tree.{number, local, element, binary, assign, emit, each, always, LayerTree}
 use Rattle.layer_mean.specs.State.{State}
 use Rattle.layer_mean.specs.State as state

@@ -2,8 +2,8 @@
 use Rattle.std.specs.Prelude.{◌≡◌, ℕ, false, List, [], ◌∷◌, length, replicate, codes, Some, None}
 use Rattle.msg_core.specs.Chain.{Content, plain}
 use Rattle.msg_core.specs.Parts as parts
-use Rattle.layer_ast.specs.declared.syntax.Function.TheVariants.{Not, Bit, Count, Lowest}
-use Rattle.layer_ast.specs.declared.syntax.Operator.TheVariants.{Add, Subtract, Multiply, Less, And, BitXor}
+use Rattle.layer_words.specs.declared.operators.Function.TheVariants.{Not, Bit, Count, Lowest}
+use Rattle.layer_words.specs.declared.operators.Operator.TheVariants.{Add, Subtract, Multiply, Less, And, BitXor}
 use Rattle.layer_mean.specs.declared.run.Row.{Row}
 use Rattle.layer_mean.specs.Tree.{number, square, rows, item, part, whole, held}
 use Rattle.layer_mean.specs.State.{State, numbers, queues, number_at, with_number, with_row, without_front, has_room}

@@ -1,11 +1,11 @@
 -- Short words for the layers of these runs.
 use Rattle.std.specs.Prelude.{ℕ, true, false, List, [], ◌∷◌, Some, None}
 use Rattle.msg_core.specs.Chain.{Content}
-use Rattle.layer_ast.specs.declared.tokens.Dir.{Dir}
-use Rattle.layer_ast.specs.declared.tokens.Dir.TheVariants.{Up, Down}
-use Rattle.layer_ast.specs.declared.tokens.Kind.{Kind}
-use Rattle.layer_ast.specs.declared.tokens.Kind.TheVariants.{Cast}
-use Rattle.layer_ast.specs.declared.syntax.Shape.TheVariants.{One}
+use Rattle.layer_words.specs.declared.events.Dir.{Dir}
+use Rattle.layer_words.specs.declared.events.Dir.TheVariants.{Up, Down}
+use Rattle.layer_words.specs.declared.events.Kind.{Kind}
+use Rattle.layer_words.specs.declared.events.Kind.TheVariants.{Cast}
+use Rattle.layer_words.specs.declared.sorts.Shape.TheVariants.{One}
 use Rattle.layer_mean.specs.declared.run.Event.{Event}
 use Rattle.layer_mean.specs.Tree.{ExpressionTree, number, MessageTree, message, EmissionTree, StatementTree}
 use Rattle.layer_mean.specs.Tree.{StatementTrees, none, more, Expected, HandlerTree, CellTree, numbers, HeaderTree}

@@ -1,6 +1,6 @@
 -- A visit's need at a desk is its handler's.
 use Rattle.std.proofs.Common.{◌≡◌, Option, Some, None, refl}
-use Rattle.layer_ast.specs.declared.tokens.Dir.{Dir}
+use Rattle.layer_words.specs.declared.events.Dir.{Dir}
 use Rattle.layer_mean.specs.declared.run.Event.{Event}
 use Rattle.layer_mean.specs.Tree.{HandlerTree, LayerTree}
 use Rattle.layer_mean.specs.Visit.{Met, met}

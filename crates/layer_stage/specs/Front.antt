@@ -1,7 +1,7 @@
 -- The event that a stage takes: the first of a list.
 use Rattle.std.specs.Prelude.{List, drop}
 use Rattle.slot_pool.specs.Held.{Held}
-use Rattle.layer_ast.specs.declared.tokens.Dir.{Dir}
+use Rattle.layer_words.specs.declared.events.Dir.{Dir}
 use Rattle.layer_mean.specs.declared.run.Event.{Event}
 use Rattle.pool_message.specs.Seen.{event_seen}
 use Rattle.pool_message.specs.Sent.{first_sent}

@@ -1,6 +1,6 @@
 -- Events that pass a layer as they are but for a header.
 use Rattle.std.specs.Prelude.{ℕ, Bool, ◌&&◌, ◌==◌, is_none, option_map}
-use Rattle.layer_ast.specs.declared.tokens.Dir.{Dir}
+use Rattle.layer_words.specs.declared.events.Dir.{Dir}
 use Rattle.layer_mean.specs.declared.run.Event.{Event}
 use Rattle.layer_mean.specs.Tree.{LayerTree}
 use Rattle.layer_mean.specs.Visit.{met, handler_for, none_header}

@@ -1,7 +1,7 @@
 -- What a visit needs of a pool and of the places for what it sends, and what a stage keeps of a pool.
 use Rattle.std.specs.Prelude.{ℕ, ◌≤◌, List, Option, Some, None}
 use Rattle.slot_pool.specs.Held.{Held, count_at}
-use Rattle.layer_ast.specs.declared.tokens.Dir.{Dir}
+use Rattle.layer_words.specs.declared.events.Dir.{Dir}
 use Rattle.layer_mean.specs.declared.run.Event.{Event}
 use Rattle.layer_mean.specs.Tree.{HandlerTree, LayerTree}
 use Rattle.layer_mean.specs.Visit.{met, handler_for}

@@ -2,7 +2,7 @@
 
 ghost use Rattle.std.specs.Prelude.{◌≡◌, ℕ, true, List, [], ◌∷◌};
 ghost use Rattle.slot_pool.specs.Held.{Held};
-ghost use Rattle.layer_ast.specs.declared.tokens.Dir.{Dir};
+ghost use Rattle.layer_words.specs.declared.events.Dir.{Dir};
 ghost use Rattle.layer_mean.specs.declared.run.Event.{Event};
 ghost use Rattle.layer_mean.specs.Tree.{LayerTree};
 ghost use Rattle.layer_mean.specs.State.{State};

@@ -17,8 +17,8 @@ ghost use Rattle.layer_stage.specs.Taken.{one_more};
 ghost use Rattle.pool_message.specs.Seen.{event_seen};
 ghost use Rattle.pool_message.specs.Sent.{sent_refs, sent_seen, SentLie, CanPass};
 
-use layer_ast::Dir;
 use layer_eval::Predicted;
+use layer_words::Dir;
 use pool_message::{Events, PoolEvent};
 use slot_pool::Pool;
 

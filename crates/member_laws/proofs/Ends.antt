@@ -4,7 +4,7 @@ use Rattle.std.specs.List.{AllByRecursion}
 use Rattle.std.proofs.lemmas.List.{length-map}
 use Rattle.msg_core.specs.declared.packet.Dest.{Dest}
 use Rattle.msg_core.specs.declared.packet.Dest.TheVariants as dest
-use Rattle.layer_ast.specs.declared.tokens.Dir.TheVariants.{Up}
+use Rattle.layer_words.specs.declared.events.Dir.TheVariants.{Up}
 use Rattle.layer_mean.specs.declared.run.Event.{Event}
 use Rattle.layer_mean.specs.Tree.{LayerTree}
 use Rattle.layer_mean.specs.Queue.{Task, Line, Work, layers, next_of, run_for, run, unstarted_work, starting}

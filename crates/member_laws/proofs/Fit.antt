@@ -7,7 +7,7 @@ use Rattle.std.specs.Option.{option_and_then, option_map_or}
 use Rattle.std.proofs.lemmas.Bool.{and_parts}
 use Rattle.std.proofs.lemmas.List.Elements.{All-cons, All-nil}
 use Rattle.std.proofs.lemmas.Option.{slice_get-map}
-use Rattle.layer_ast.specs.declared.tokens.Dir.{Dir}
+use Rattle.layer_words.specs.declared.events.Dir.{Dir}
 use Rattle.layer_mean.specs.declared.run.Case.{Case}
 use Rattle.layer_mean.specs.declared.run.Case.TheVariants.{First, Second}
 use Rattle.layer_mean.specs.declared.run.Event.{Event}

@@ -1,22 +1,17 @@
--- The small stacks, rule by rule.
-use Rattle.std.proofs.Common.{◌<◌, [], Some, refl, arith}
+-- The small stack, rule by rule.
+use Rattle.std.proofs.Common.{[], Some, refl, arith}
 use Rattle.std.specs.Prelude.{codes}
-use Rattle.layer_ast.specs.Spelling.{kinds}
+use Rattle.layer_words.specs.Spelling.{kinds}
 use Rattle.layer_mean.specs.Queue.{run}
 use Rattle.layer_mean.specs.Tree as mean
 use Rattle.layer_mean.specs.Visit.{step}
 use Rattle.stack_mean.specs.Shape.{drawn_shape, has_second_case}
-use Rattle.file_mean.specs.CounterFile as counter
-use Rattle.run_mean.specs.World.{happens}
 use Rattle.member_laws.specs.PlanSamples.{first_of_two}
 use Rattle.chain_laws.specs.Runs.{TypedStack}
-use Rattle.file_laws.proofs.SmallFiles.{counter_is_typed}
 use Rattle.member_laws.specs.Members.{IsView}
-use Rattle.member_laws.proofs.Members.{all_of, first_world_is_chained, opened_is_chained}
+use Rattle.member_laws.proofs.Members.{opened_is_chained}
 use Rattle.member_laws.specs.Steps.{IsStep}
-use Rattle.member_laws.specs.Samples.{keeping, fresh_states, two_letters, KeepingStep, two_members, one_cast}
-use Rattle.member_laws.specs.Samples.{CounterWorld}
-use Rattle.member_laws.proofs.Numbered.{worlds_are_chained}
+use Rattle.member_laws.specs.Samples.{keeping, fresh_states, two_letters, KeepingStep}
 
 keeping_typed : TypedStack keeping
 keeping_typed = (
@@ -80,14 +75,3 @@ keeping_is = record {
 pub keeping_step : KeepingStep
 unfolding step run drawn_shape has_second_case kinds
 keeping_step = (keeping_is, refl, refl, refl, refl, refl, refl)
-
-pub counter_world : CounterWorld
-unfolding step run drawn_shape has_second_case happens
-counter_world =
-    let first = first_world_is_chained counter.stack 1 1 2 counter_is_typed.2 (omega arith) (omega arith) (omega arith)
-    in (
-      first,
-      worlds_are_chained counter.stack two_members one_cast counter_is_typed.2
-          (all_of (λ b. b < 256) (codes "hi") (omega arith, (omega arith, tt)), tt) first,
-      refl,
-    )

@@ -1,8 +1,7 @@
--- The laws of steps where parts are read, and the laws of members on the counter's stack.
+-- The laws of steps where parts are read.
 use Rattle.std.specs.Prelude.{◌≡◌, ◌+◌, true, false, List, [], ◌∷◌, map, length, Some, codes, Ok}
-use Rattle.std.specs.List.{AllByRecursion}
-use Rattle.layer_ast.specs.declared.tokens.Dir.TheVariants.{Down}
-use Rattle.layer_ast.specs.declared.tokens.Kind.TheVariants as kind
+use Rattle.layer_words.specs.declared.events.Dir.TheVariants.{Down}
+use Rattle.layer_words.specs.declared.events.Kind.TheVariants as kind
 use Rattle.layer_mean.specs.declared.run.Case.TheVariants.{First}
 use Rattle.layer_mean.specs.Tree as mean
 use Rattle.layer_mean.specs.Tree.{LayerTree}
@@ -11,17 +10,11 @@ use Rattle.layer_mean.specs.Visit.{fresh}
 use Rattle.stack_mean.specs.Acceptance.{acceptance}
 use Rattle.stack_mean.specs.Plans.{plans_of}
 use Rattle.run_mean.specs.Mode.{bypass}
-use Rattle.script_mean.specs.declared.event.ScriptEvent.{ScriptEvent}
-use Rattle.script_mean.specs.declared.event.ScriptEvent.TheVariants as script
-use Rattle.file_mean.specs.CounterFile as counter
 use Rattle.run_mean.specs.Common.{as_sent}
 use Rattle.run_mean.specs.Member.{Entered, app_cast, first_task, Step, step_from}
-use Rattle.run_mean.specs.World.{World, first_world, happens}
-use Rattle.run_mean.specs.Report.{moments}
 use Rattle.shape_laws.specs.Parts.{layer_reads_no_part}
 use Rattle.member_laws.specs.PlanSamples.{first_of_two}
 use Rattle.weight_laws.specs.Visits.{task_weight}
-use Rattle.member_laws.specs.Members.{IsChainedWorld, IsChainedMoment}
 use Rattle.member_laws.specs.Steps.{IsStep}
 
 -- A layer that keeps the front of each cast as a part, and sends the part that it has kept longest in its place.
@@ -87,18 +80,3 @@ KeepingStep =
     (acceptance keeping ≡ Ok keeping) ×
     (task_weight keeping (first_task keeping 0 two_letters) ≡ 2) ×
     (keeping_step.work.visits + length keeping_step.outputs ≡ 2)
-
--- Two members over the counter's stack, of whom the first casts.
-abbrev pub two_members : World
-two_members = first_world counter.stack 1 1 2
-
-abbrev pub one_cast : List ScriptEvent
-one_cast = script.Cast 0 (codes "hi") ∷ []
-
--- Their world is chained at first and after the cast, which sent a packet.
-abbrev pub CounterWorld : Type 0
-CounterWorld =
-    IsChainedWorld counter.stack two_members ×
-    AllByRecursion (IsChainedMoment counter.stack) (moments counter.stack (plans_of counter.stack) two_members one_cast)
-    ×
-    (length (happens counter.stack (plans_of counter.stack) two_members (script.Cast 0 (codes "hi"))).world.packets ≡ 1)

@@ -6,8 +6,8 @@ use Rattle.layer_mean.specs.Visit.{no_state}
 use Rattle.std.specs.Borrow.{Bor}
 use Rattle.slot_pool.specs.Held.{Held}
 use Rattle.run_mean.specs.Member.{Member, inside, out}
-use Rattle.file_layer.specs.Layer.{state_in}
-use Rattle.file_layer.specs.declared.layer.FileLayer.{FileLayer}
+use Rattle.live_layer.specs.Layer.{state_in}
+use Rattle.live_layer.specs.declared.layer.FileLayer.{FileLayer}
 
 -- The member that is in a view with these states of its layers, or in none.
 abbrev pub member_in : Option View → List State → Member

@@ -4,12 +4,12 @@ ghost use Rattle.std.specs.Prelude.{◌≡◌, List, map, length, option_map, If
 ghost use Rattle.std.specs.List.{AllByRecursion};
 ghost use Rattle.slot_pool.specs.Held.{Held};
 ghost use Rattle.layer_mean.specs.State.{number_at, numbers_in, queues_in, cell_at, rows_at, row_at};
-ghost use Rattle.file_layer.specs.Layer.{IsInOrder, state_in};
+ghost use Rattle.live_layer.specs.Layer.{IsInOrder, state_in};
 ghost use Rattle.member_reads.specs.Rows.{row_meant};
 ghost use Rattle.member_reads.specs.Shown.{member_in, state_of, state_shown, view_shown};
 
 use crate::row::{RowView, row_of};
-use file_layer::FileLayer;
+use live_layer::FileLayer;
 use msg_core::View;
 use slot_pool::Pool;
 use std::marker::Model;
@@ -32,7 +32,7 @@ impl<'b> Model for Shown<'b> {
 
     ghost coded = { member_code };
 
-    ghost use Rattle.file_layer.specs.Layer.{IsInOrder, state_in};
+    ghost use Rattle.live_layer.specs.Layer.{IsInOrder, state_in};
     ghost use Rattle.member_reads.specs.Shown.{member_in};
 
     ghost view = { λ s. member_in s.view (map (state_in s.pool.now) s.layers.now) };

@@ -7,8 +7,8 @@ use Rattle.group_feed.specs.Probing.{IsProbed}
 use Rattle.group_feed.specs.Standing.{Peopled, Stands}
 use Rattle.layer_ast.specs.Tree.{FileTree}
 use Rattle.layer_mean.specs.Tree.{LayerTree}
-use Rattle.miss_mean.specs.Lacks.{Miss, entry_named, miss_by, miss_of}
-use Rattle.miss_mean.specs.Text.{miss_line, missed_in}
+use Rattle.lack_mean.specs.Lacks.{Miss, entry_named, miss_by, miss_of, missed_in}
+use Rattle.miss_mean.specs.Text.{miss_line}
 use Rattle.outside.proofs.Gaining.{begins_after, begins_none}
 use Rattle.outside.specs.Lines.{Begins, Gains}
 use Rattle.outside.specs.Tells.{Tells}

@@ -8,7 +8,7 @@ use Rattle.layer_ast.specs.Tree.{FileTree}
 use Rattle.layer_mean.specs.Tree.{LayerTree}
 use Rattle.layer_mean.specs.declared.run.Case.{Case}
 use Rattle.layer_mean.specs.declared.run.Case.TheVariants.{First, Second}
-use Rattle.miss_mean.specs.Lacks.{missed}
+use Rattle.lack_mean.specs.Lacks.{missed}
 use Rattle.miss_mean.specs.Text.{drawn_spots, entry_spots, known_at, lack_text, spot_text}
 use Rattle.run_mean.specs.Common.{is_short, plan_entry}
 use Rattle.stack_mean.specs.NoShape as no_shape

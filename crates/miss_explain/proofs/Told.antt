@@ -6,9 +6,9 @@ use Rattle.std.specs.Prelude.{Result, Ok, Err}
 use Rattle.layer_mean.specs.Tree.{LayerTree}
 use Rattle.layer_mean.specs.declared.run.Case.{Case}
 use Rattle.layer_mean.specs.declared.run.Case.TheVariants.{First, Second}
-use Rattle.miss_mean.specs.Lacks as lacks
-use Rattle.miss_mean.specs.Lacks.{absent, missed, Entry, Miss, entry_named, lack_of, first_lack, second_lack}
-use Rattle.miss_mean.specs.Lacks.{miss_by, miss_of}
+use Rattle.lack_mean.specs.Lacks as lacks
+use Rattle.lack_mean.specs.Lacks.{absent, missed, Entry, Miss, entry_named, lack_of, first_lack, second_lack}
+use Rattle.lack_mean.specs.Lacks.{miss_by, miss_of}
 use Rattle.miss_mean.specs.Text.{known_at}
 use Rattle.packet_mean.specs.Plan.{least_fit}
 use Rattle.run_mean.specs.Common.{entry_of, is_common, is_short, longest_shape, plan_entry}

@@ -5,7 +5,7 @@ use Rattle.std.specs.Prelude.{codes}
 use Rattle.layer_ast.specs.Tree.{FileTree}
 use Rattle.layer_mean.specs.Tree.{LayerTree}
 use Rattle.layer_mean.specs.declared.run.Case.TheVariants.{First, Second}
-use Rattle.miss_mean.specs.Lacks.{Lack, Miss}
+use Rattle.lack_mean.specs.Lacks.{Lack, Miss}
 use Rattle.miss_mean.specs.Spots.{Spot}
 use Rattle.miss_mean.specs.Text.{entry_spots, entry_text, known_at, lack_text, miss_line, second_text}
 use Rattle.run_mean.specs.Lines.{line}

@@ -2,7 +2,7 @@
 use Rattle.std.specs.Prelude.{ℕ, List, [], ◌++◌, codes, Option, Some, None}
 use Rattle.std.specs.Fmt.{decimal}
 use Rattle.layer_mean.specs.Tree.{LayerTree}
-use Rattle.miss_mean.specs.Lacks.{Entry, Lack}
+use Rattle.lack_mean.specs.Lacks.{Entry, Lack}
 use Rattle.miss_mean.specs.Spots.{Spot}
 use Rattle.miss_mean.specs.Text.{entry_text, lack_text}
 

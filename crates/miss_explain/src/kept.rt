@@ -1,7 +1,7 @@
 //! The decisions of entries.
 
 ghost use Rattle.std.specs.Prelude.{◌≡◌, option_map, slice_get};
-ghost use Rattle.event_graph.specs.Answer.{stack_tree};
+ghost use Rattle.stack_judge.specs.Answer.{stack_tree};
 ghost use Rattle.layer_ast.specs.View.{file_tree};
 ghost use Rattle.miss_mean.specs.Text.{drawn_spots};
 ghost use Rattle.shape_core.specs.Cases.{case_trees, drawn_tree};

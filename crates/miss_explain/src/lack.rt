@@ -4,7 +4,7 @@ ghost use Rattle.std.specs.Prelude.{◌≡◌, ◌++◌, [], OnOk, codes, option
 ghost use Rattle.std.specs.Fmt.{decimal};
 ghost use Rattle.std.specs.Option.{option_map_or};
 ghost use Rattle.bypass_mean.specs.Lines.{reason_text};
-ghost use Rattle.event_graph.specs.Answer.{stack_tree};
+ghost use Rattle.stack_judge.specs.Answer.{stack_tree};
 ghost use Rattle.layer_ast.specs.View.{file_tree};
 ghost use Rattle.layer_mean.specs.Tree.{no_layer};
 ghost use Rattle.miss_mean.specs.Text.{entry_spots, entry_text, known_at, lack_text, spot_text};
@@ -81,7 +81,7 @@ fn push_spot(line: &mut Line, stack: &NamedStack, spot: Spot) -> Result<(), Memo
     push_numbered(line, b" line ", u64::from(spot.line))
 }
 
-/// The same, if there is such a decision.
+/// `visit V place P LAYER line L` if there is such a decision, and else nothing.
 fn push_found(line: &mut Line, stack: &NamedStack, spot: Option<Spot>) -> Result<(), Memory>
     ensures { OnOk result
         (line.new ≡ line.old ++ option_map_or (spot_text (stack_tree stack.now)) (option_map spot_tree spot) []) }

@@ -2,7 +2,7 @@
 
 ghost use Rattle.std.specs.Prelude.{◌≡◌, bytes_eq, find, map, option_map};
 ghost use Rattle.std.specs.List.{position};
-ghost use Rattle.event_graph.specs.Answer.{stack_tree};
+ghost use Rattle.stack_judge.specs.Answer.{stack_tree};
 ghost use Rattle.fault_mean.specs.Places as places;
 ghost use Rattle.layer_ast.specs.View as written;
 ghost use Rattle.layer_mean.specs.Visit as mean;
@@ -10,10 +10,11 @@ ghost use Rattle.miss_mean.specs.Spots as spots;
 ghost use Rattle.shape_core.specs.Sketch.{visit_tree};
 ghost use Rattle.typed_layer.specs.View.{handler_tree};
 
-use event_graph::Stack;
 use file_scope::is_same;
-use layer_ast::{Dir, File, Handler, Kind, Layer, Place, Word};
+use layer_ast::{File, Handler, Layer, Place};
+use layer_words::{Dir, Kind, Word};
 use shape_core::ShapeVisit;
+use stack_judge::Stack;
 
 /// The tag that is popped from an event with this first tag; going down, none is popped.
 fn popped_tag(dir: Dir, tag: u8) -> u8
@@ -63,7 +64,7 @@ fn named<'a>(layers: &'a [Layer], word: &Word) -> Option<&'a Layer>
     layers.iter().find(|l| is_same(&l.name.word, word))
 }
 
-/// The same, in the definitions' words.
+/// The layer of a list that has this name, as the definitions find it.
 #[tactic(auto, using(crate::proofs::Layers::among))]
 fn layer_among<'a>(layers: &'a [Layer], word: &Word) -> Option<&'a Layer>
     ensures { option_map (λ l. written.layer_tree l.now) result ≡ places.layer_among (map written.layer_tree layers.now)

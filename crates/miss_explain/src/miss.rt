@@ -1,7 +1,7 @@
 //! The line of a step that wasn't common.
 
 ghost use Rattle.std.specs.Prelude.{◌≡◌, ◌++◌, ◌∷◌, [], OnOk, option_map};
-ghost use Rattle.event_graph.specs.Answer.{stack_tree};
+ghost use Rattle.stack_judge.specs.Answer.{stack_tree};
 ghost use Rattle.layer_ast.specs.View.{file_tree};
 ghost use Rattle.layer_mean.specs.declared.run.Case.TheVariants.{Second};
 ghost use Rattle.miss_mean.specs.Text.{entry_spots, known_at, miss_line};

@@ -3,7 +3,7 @@
 ghost use Rattle.std.specs.Prelude.{◌∷◌, []};
 ghost use Rattle.miss_explain.specs.Search.{Passes};
 
-use layer_ast::At;
+use layer_words::At;
 
 /// The search for a decision by its number among some, counted from 0.
 #[derive(Clone, Copy, Debug, PartialEq, Eq)]

@@ -1,7 +1,7 @@
 //! Where decisions stand.
 
 ghost use Rattle.std.specs.Prelude.{◌≡◌, option_map, slice_get};
-ghost use Rattle.event_graph.specs.Answer.{stack_tree};
+ghost use Rattle.stack_judge.specs.Answer.{stack_tree};
 ghost use Rattle.layer_ast.specs.View.{file_tree};
 ghost use Rattle.miss_mean.specs.Spots as mean;
 ghost use Rattle.shape_core.specs.Sketch.{shape_tree, visit_tree};
@@ -11,10 +11,10 @@ ghost use Rattle.miss_explain.specs.Spot.{spot_tree};
 use crate::handlers::pass_handler;
 use crate::meeting::{handler_at, handler_number};
 use crate::search::Search;
-use event_graph::Stack;
 use layer_ast::File;
 use layer_mean::Case;
 use shape_core::{Shape, ShapeVisit};
+use stack_judge::Stack;
 
 /// A decision on the way of a shape: the visit in which it is made, counted from 1, the visit's place, and its line in
 /// the text of the place's layer.

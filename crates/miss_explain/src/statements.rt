@@ -6,8 +6,9 @@ ghost use Rattle.miss_mean.specs.Spots.{block_lines, statement_lines};
 ghost use Rattle.miss_explain.specs.Search.{Passes, is_entered};
 
 use crate::search::{Search, pass};
-use layer_ast::{Block, Likely, Statement};
+use layer_ast::{Block, Statement};
 use layer_mean::Case;
+use layer_words::Likely;
 
 /// Whether a condition is predicted to go into its first block in a case.
 fn is_entered(case: Case, likely: Likely) -> bool

@@ -10,7 +10,7 @@ use Rattle.std.proofs.lemmas.List.{length-append}
 use Rattle.std.proofs.lemmas.List.Folds.{list_all-append}
 use Rattle.std.proofs.lemmas.List.Sums.{fold-append, sum_by_push}
 use Rattle.std.proofs.lemmas.Iterator.Adapters.{position_from-zero}
-use Rattle.layer_ast.specs.declared.syntax.Operator.TheVariants.{And}
+use Rattle.layer_words.specs.declared.operators.Operator.TheVariants.{And}
 use Rattle.layer_mean.specs.State.{State}
 use Rattle.layer_mean.specs.Value.{is_true}
 use Rattle.trace_mean.specs.Trace.{TraceNumber, binary, Guarded}
@@ -21,7 +21,7 @@ use Rattle.guard_mean.specs.Machine.{Tested, tests, tested, operand_at, reading_
 use Rattle.guard_mean.specs.Straight.{Guarding, value_tests, one_test, conjunct_tests, unguarded, code_of}
 use Rattle.guard_laws.proofs.Grows.{Grown, grown_same, grown_then}
 use Rattle.guard_laws.proofs.Straight.{code_is_same}
-use Rattle.check_mean.specs.Checks.{Checking, one_check, failing_after, failing_from}
+use Rattle.guard_mean.specs.Checks.{Checking, one_check, failing_after, failing_from}
 use Rattle.miss_laws.specs.Checked.{ChecksFindUnheld}
 
 -- where one of two choices is none, so is the other

@@ -17,7 +17,7 @@ use Rattle.guard_laws.proofs.Grows.{grown_same, back_grows, hoists_grow, conjunc
 use Rattle.guard_laws.proofs.Means.{After, after_more}
 use Rattle.guard_laws.proofs.Same.{start}
 use Rattle.guard_laws.proofs.Steps.{On, Claim, step}
-use Rattle.check_mean.specs.Checks.{stop_of, first_unheld}
+use Rattle.guard_mean.specs.Checks.{stop_of, first_unheld}
 use Rattle.miss_laws.specs.Checked.{UnheldStops}
 use Rattle.miss_laws.proofs.Positions.{failed_from, none_failed, last_failed, first_stays}
 

@@ -32,16 +32,16 @@ use Rattle.trace_laws.specs.Members.{AreOf}
 use Rattle.trace_laws.specs.Right.{answer_for, Enters}
 use Rattle.trace_laws.specs.Shapes.{Told, told_by_shape, told_by_trace}
 use Rattle.trace_laws.proofs.Shapes.{traces_stand_for_shapes}
-use Rattle.trace_step_laws.specs.Steps.{entry_fields}
-use Rattle.trace_step_laws.proofs.Entries.{entries_begin, steps_follow_traces}
+use Rattle.handler_laws.specs.Steps.{entry_fields}
+use Rattle.handler_laws.proofs.Entries.{entries_begin, steps_follow_traces}
 use Rattle.guard_mean.specs.Hoist.{hoisted}
 use Rattle.bypass_mean.specs.Bypasses.{Entry, plan_entry, entries_of}
 use Rattle.bypass_laws.specs.Stack.{lack_of}
 use Rattle.bypass_laws.specs.Making.{made_with, made_of, second_of, bypasses_of, IsSound, simplest}
-use Rattle.check_mean.specs.Checks.{stop_of, checks_of, first_failing}
+use Rattle.guard_mean.specs.Checks.{stop_of, checks_of, first_failing}
 use Rattle.handler_laws.specs.Handled.{step_input}
-use Rattle.miss_mean.specs.Lacks as lack
-use Rattle.miss_mean.specs.Lacks.{Miss, first_lack, second_lack, miss_by, entry_named, miss_of}
+use Rattle.lack_mean.specs.Lacks as lack
+use Rattle.lack_mean.specs.Lacks.{Miss, first_lack, second_lack, miss_by, entry_named, miss_of}
 use Rattle.miss_laws.specs.Asked.{asked_of, AllAsked, all_asked, lack_at, lacks_at, miss_asked}
 use Rattle.miss_laws.specs.Told.{told_of, MissesAreTold}
 use Rattle.miss_laws.proofs.Checked.{checks_find_unheld}

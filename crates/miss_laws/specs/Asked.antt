@@ -6,9 +6,9 @@ use Rattle.stack_mean.specs.NoShape.{NoShape}
 use Rattle.trace_mean.specs.Worth.{Input}
 use Rattle.guard_mean.specs.Hoist.{hoisted}
 use Rattle.bypass_mean.specs.Bypasses.{Made, fused, absent, Bypasses}
-use Rattle.check_mean.specs.Checks.{Checks, checks_of, first_failing}
-use Rattle.miss_mean.specs.Lacks as lack
-use Rattle.miss_mean.specs.Lacks.{Lack, Entry, cast, send, plan, none, Miss}
+use Rattle.guard_mean.specs.Checks.{Checks, checks_of, first_failing}
+use Rattle.lack_mean.specs.Lacks as lack
+use Rattle.lack_mean.specs.Lacks.{Lack, Entry, cast, send, plan, none, Miss}
 
 -- Of an entry in a case: its checks, or why it has no trace.
 pub data Asked : Type 0 where

@@ -4,14 +4,14 @@ use Rattle.layer_mean.specs.State.{State}
 use Rattle.layer_mean.specs.Tree.{LayerTree}
 use Rattle.layer_mean.specs.declared.run.Case.{Case}
 use Rattle.stack_mean.specs.Shape.{Known}
-use Rattle.file_laws.specs.Named.{NamedStack}
+use Rattle.chain_laws.specs.Named.{NamedStack}
 use Rattle.trace_mean.specs.Trace.{Operation, Guarded}
 use Rattle.trace_mean.specs.Follow.{follow}
 use Rattle.trace_mean.specs.Fuse.{trace_of}
 use Rattle.trace_mean.specs.Worth.{Input}
 use Rattle.trace_laws.specs.Right.{Enters}
 use Rattle.guard_mean.specs.Hoist.{hoisted}
-use Rattle.check_mean.specs.Checks.{stop_of, first_unheld, checks_of, first_failing}
+use Rattle.guard_mean.specs.Checks.{stop_of, first_unheld, checks_of, first_failing}
 
 -- The tests of a guarded handler's conjuncts find the first that doesn't hold.
 abbrev pub ChecksFindUnheld : Type 0

@@ -11,7 +11,7 @@ use Rattle.member_laws.specs.Steps.{IsStep}
 use Rattle.trace_laws.specs.Members.{AreOf}
 use Rattle.bypass_laws.specs.Making.{IsSound, bypasses_of, simplest}
 use Rattle.handler_laws.specs.Handled.{step_input}
-use Rattle.miss_mean.specs.Lacks.{Miss, entry_named, miss_of}
+use Rattle.lack_mean.specs.Lacks.{Miss, entry_named, miss_of}
 use Rattle.miss_laws.specs.Asked.{AllAsked, all_asked, miss_asked}
 
 -- The checks of a stack: those of the bypasses that are made of it.

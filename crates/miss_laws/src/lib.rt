@@ -17,6 +17,6 @@ pub fn unheld_stops()
 {}
 
 /// So they tell what a step that isn't common lacked.
-pub fn misses_are_told()
+pub fn law_misses_are_told()
     ensures { MissesAreTold }
 {}

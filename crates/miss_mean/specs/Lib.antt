@@ -1,3 +1,2 @@
-pub mod Lacks
 pub mod Spots
 pub mod Text

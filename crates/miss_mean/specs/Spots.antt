@@ -5,9 +5,9 @@ use Rattle.std.specs.List.{enumerate_from, flat_map, position}
 use Rattle.std.specs.Option.{option_map_or}
 use Rattle.layer_ast.specs.Tree as ast
 use Rattle.layer_ast.specs.Tree.{FileTree}
-use Rattle.layer_ast.specs.declared.syntax.Likely.TheVariants as likely
-use Rattle.layer_ast.specs.declared.tokens.Dir.{Dir}
-use Rattle.layer_ast.specs.declared.tokens.Dir.TheVariants.{Up, Down}
+use Rattle.layer_words.specs.declared.sorts.Likely.TheVariants as likely
+use Rattle.layer_words.specs.declared.events.Dir.{Dir}
+use Rattle.layer_words.specs.declared.events.Dir.TheVariants.{Up, Down}
 use Rattle.layer_mean.specs.Tree.{LayerTree, no_layer}
 use Rattle.layer_mean.specs.Visit.{is_for}
 use Rattle.layer_mean.specs.declared.run.Case.{Case}
@@ -38,11 +38,12 @@ abbrev mutual
   block_lines case ast.none = []
   block_lines case (ast.more statement rest) = statement_lines case statement ++ block_lines case rest
 
--- A handler that is common where a condition holds decides that first.
+-- The line of the condition where a handler is common, which it decides first; none for any other.
 abbrev pub expected_lines : ast.Expected → List ℕ
 expected_lines (ast.common condition) = (expression_at condition).line ∷ []
 expected_lines _ = []
 
+-- The lines of a handler's decisions on its predicted way in a case: of its own condition, and then of its block.
 abbrev pub handler_lines : Case → ast.HandlerTree → List ℕ
 handler_lines case h = expected_lines h.expected ++ block_lines case h.block
 
@@ -76,6 +77,7 @@ pub record Spot : Type 0 where
   pub place : ℕ
   pub line : ℕ
 
+-- The decisions of a visit, which is given with its number, at its place of the stack.
 abbrev pub visit_spots : Case → FileTree → List LayerTree → ℕ × ShapeVisit → List Spot
 visit_spots case file stack x = map (λ line. record { visit = x.0; place = x.1.place; line = line })
     (visit_lines case file stack x.1)

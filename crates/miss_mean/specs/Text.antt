@@ -18,8 +18,7 @@ use Rattle.bypass_mean.specs.Lines.{reason_text}
 use Rattle.run_mean.specs.Common.{plan_entry}
 use Rattle.run_mean.specs.Lines.{line}
 use Rattle.run_mean.specs.Report.{Moment, run_of, end_line}
-use Rattle.run_mean.specs.World.{Did, taken}
-use Rattle.miss_mean.specs.Lacks.{Lack, no_plan, absent, missed, Entry, cast, send, plan, none, Miss, miss_of}
+use Rattle.lack_mean.specs.Lacks.{Lack, no_plan, absent, missed, Entry, cast, send, plan, none, Miss, missed_in}
 use Rattle.miss_mean.specs.Spots.{Spot, shape_spots}
 
 -- `cast`, `send`, `plan K`, or `none` for a packet that fits no plan.
@@ -36,11 +35,12 @@ known_at plans send = Some entry.app_send
 known_at plans (plan k) = option_map plan_entry (slice_get plans k)
 known_at plans none = None
 
--- The decisions on the predicted way of an entry in a case.
+-- The decisions of a shape in a case; none where there is no shape.
 abbrev pub drawn_spots : Case → FileTree → List LayerTree → Result Shape NoShape → List Spot
 drawn_spots case file stack (Ok s) = shape_spots case file stack s
 drawn_spots case file stack (Err reason) = []
 
+-- The decisions on the predicted way of an entry in a case; none where it isn't known or has no shape.
 abbrev pub entry_spots : Case → FileTree → List LayerTree → Option Known → List Spot
 entry_spots case file stack known = option_map_or (λ k. drawn_spots case file stack (shape stack k case)) known []
 
@@ -69,11 +69,7 @@ miss_line file stack plans event id miss = let known = known_at plans miss.entry
     ∷ lack_text stack (entry_spots First file stack known) miss.first
     ∷ second_text stack (entry_spots Second file stack known) miss.second)
 
--- The line of an event, if its step was taken and lacked something.
-abbrev pub missed_in : List LayerTree → List Plan → Did → Option Miss
-missed_in stack plans (taken s) = miss_of stack plans s
-missed_in stack plans _ = None
-
+-- The line of an event, which is given with its number, if its step was taken and lacked something.
 abbrev pub event_misses : FileTree → List LayerTree → List Plan → ℕ × Moment → List (List ℕ)
 event_misses file stack plans x = option_to_list (option_map (miss_line file stack plans x.0 (member_of x.1.event))
     (missed_in stack plans x.1.happening.did))

@@ -1,3 +1,3 @@
-//! Why a step wasn't common, and how that is told: what each case of its entry lacks, and where in the layers' texts a
-//! decision that left the prediction stands, as definitions.
+//! How it is told why a step wasn't common: where in the layers' texts a decision that left the prediction stands, and
+//! the lines, as definitions.
 #![tactic(auto)]

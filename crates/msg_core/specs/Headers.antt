@@ -10,10 +10,11 @@ most_places = 24
 abbrev pub most_headers : ℕ
 most_headers = most_places
 
--- The most headers that a layer declares, and the most tags that they have with `none`.
+-- The most headers that a layer declares.
 abbrev pub most_declared : ℕ
 most_declared = 7
 
+-- The most tags that a layer's headers have: those of the declared ones, and 0 for `none`.
 abbrev pub most_tags : ℕ
 most_tags = 8
 

@@ -3,6 +3,7 @@ use Rattle.std.specs.Prelude.{◌≡◌, ℕ, ◌-◌, ◌≤◌, List, ◌++◌
 use Rattle.std.proofs.Common.{◌∙◌, sym, ap, take-append-drop, length-take-le}
 use Rattle.msg_core.specs.Headers.{most_fields}
 
+-- Fields with zeros after them, up to the most numbers that a header may have.
 abbrev pub kept_fields : List ℕ → List ℕ
 kept_fields fields = fields ++ replicate (most_fields - length fields) 0
 

@@ -38,7 +38,8 @@ impl Model for Fields {
 }
 
 impl Fields {
-    pub fn none() -> Fields
+    /// No number.
+    pub fn new() -> Fields
         ensures { result ≡ [] }
     {
         Fields {
@@ -47,17 +48,19 @@ impl Fields {
         }
     }
 
+    /// These numbers in order, of which there are at most `MOST_FIELDS`.
     pub fn of(numbers: &[u32]) -> Fields
         requires { length numbers.now ≤ most_fields }
         ensures { result ≡ numbers.now }
     {
-        let mut fields = Fields::none();
+        let mut fields = Fields::new();
         for number in numbers {
             fields.push(*number);
         }
         fields
     }
 
+    /// Puts a number after the others, where there are fewer than `MOST_FIELDS`.
     pub fn push(&mut self, number: u32)
         requires { length self.old < most_fields }
         ensures { self.new ≡ self.old ++ number ∷ [] }
@@ -66,6 +69,7 @@ impl Fields {
         self.len += 1;
     }
 
+    /// How many numbers there are.
     pub fn len(&self) -> u32
         ensures count { result ≡ length self.now }
         ensures few { result ≤ most_fields }
@@ -84,7 +88,7 @@ impl Fields {
         }
     }
 
-    /// The same numbers once more.
+    /// A copy of these numbers.
     pub fn copy(&self) -> Fields
         ensures { result ≡ self.now }
     {

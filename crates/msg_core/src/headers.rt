@@ -33,14 +33,15 @@ impl Model for Headers {
 }
 
 impl Headers {
-    pub fn none() -> Headers
+    /// No header.
+    pub fn new() -> Headers
         ensures { result ≡ [] }
     {
         Headers {
             places: array::from_fn(|_place| Header {
                 layer: 0,
                 tag: 0,
-                fields: Fields::none(),
+                fields: Fields::new(),
             }),
             first: MOST_HEADERS as u8,
         }
@@ -73,11 +74,11 @@ impl Headers {
         }
     }
 
-    /// The same headers once more.
+    /// A copy of these headers.
     pub fn copy(&self) -> Headers
         ensures { result ≡ self.now }
     {
-        let mut copy = Headers::none();
+        let mut copy = Headers::new();
         copy.copy_from(self);
         copy
     }
@@ -125,7 +126,7 @@ impl Headers {
         if u32::from(count) == self.len() {
             return;
         }
-        let mut kept = Headers::none();
+        let mut kept = Headers::new();
         let all = self.slice();
         for k in (0..usize::from(count)).rev() {
             kept.push_front(all[k].copy());

@@ -10,7 +10,7 @@ mod headers;
 mod message;
 mod packet;
 
-pub use fields::Fields;
+pub use fields::{Fields, MOST_FIELDS};
 pub use headers::{Headers, MOST_HEADERS};
 pub use message::{Header, LONGEST_BODY, Memory, Message};
 pub use packet::{Dest, LAST_MEMBER, MOST_MEMBERS, Packet, Stray, View};

@@ -38,7 +38,7 @@ pub struct Header {
 }
 
 impl Header {
-    /// The same header once more.
+    /// A copy of this header.
     pub fn copy(&self) -> Header
         ensures { result ≡ self.now }
     {
@@ -110,6 +110,7 @@ impl Message {
         &self.headers[count - 1 - k]
     }
 
+    /// The bytes after the headers.
     pub fn body(&self) -> &[u8]
         ensures { result.now ≡ self.now.body }
     {
@@ -133,7 +134,7 @@ impl Message {
         self.headers.pop()
     }
 
-    /// The same message once more; the two share their body.
+    /// A copy of this message; the two share their body.
     pub fn copy(&self, alloc: Global) -> Result<Message, Memory>
         ensures { IfOk result (λ m. m ≡ self.now) }
     {

@@ -30,6 +30,7 @@ pub record Beyond : Type 0 where
   pub clock : Option (List ℕ)
   pub clock_after : Option (List ℕ)
 
+-- A network and a clock before a job and after it, of which this is told.
 abbrev pub lying_beyond : (faults faults_after sends sends_after : ℕ) → (told told_after : Option Network) →
     (clock clock_after : Option (List ℕ)) → Beyond
 lying_beyond faults faults_after sends sends_after told told_after clock clock_after = record {
@@ -43,7 +44,7 @@ lying_beyond faults faults_after sends sends_after told told_after clock clock_a
   clock_after = clock_after;
 }
 
--- The same, by what links and a clock were before and after.
+-- A network and a clock before a job and after it, as these links and this clock tell of themselves.
 abbrev pub beyond : {N C : Type 0} → networks.Ghosts N → clocks.Ghosts C → N → N → C → C → Beyond
 beyond n c links links_after clock clock_after =
     lying_beyond (n.faults links) (n.faults links_after) (n.send_faults links) (n.send_faults links_after)

@@ -7,7 +7,7 @@ use Rattle.script_mean.specs.declared.plan.NodePlan.{NodePlan}
 use Rattle.script_text.specs.Plan.{IsRunnable}
 use Rattle.end_mean.specs.Status.{Ended, done, second_refused, write_failed, link_failed, no_memory}
 use Rattle.group_mean.specs.Shown.{shown_mode}
-use Rattle.job_text.specs.declared.named.Node as given
+use Rattle.job_text.specs.declared.named.NodeJob as given
 use Rattle.group_mean.specs.Node.{node_words}
 use Rattle.group_mean.specs.Room.{HasRoom}
 use Rattle.program_mean.specs.Second.{after_plan}
@@ -19,7 +19,7 @@ use Rattle.node_loop.specs.declared.error.NodeError.TheVariants.{Link, Write, Me
 use Rattle.node_jobs.specs.Comes.{Node, Lost, Broken}
 
 -- The words of a node's job.
-abbrev pub words_of : given.Node → Node
+abbrev pub words_of : given.NodeJob → Node
 words_of n = record {
   file = n.file.now;
   plan = n.plan.now;

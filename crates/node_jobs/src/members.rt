@@ -12,7 +12,7 @@ pub(crate) fn are_below(ids: &[u32], count: u8) -> bool
     ids.iter().all(|id| *id < u32::from(count))
 }
 
-/// The same ids, a byte each.
+/// These ids in order, a byte each.
 pub(crate) fn as_bytes(alloc: Global, ids: &[u32]) -> Result<Vec<u8>, AllocError>
     requires { AllByRecursion (λ id. id < 256) ids.now }
     ensures { IfOk result (λ bytes. bytes.items ≡ ids.now) }

@@ -1,7 +1,7 @@
 //! The job `node`.
 
 ghost use Rattle.bypass_laws.specs.Making.{IsSound};
-ghost use Rattle.event_graph.specs.Answer.{stack_tree};
+ghost use Rattle.stack_judge.specs.Answer.{stack_tree};
 ghost use Rattle.job_ends.specs.Comes.{around};
 ghost use Rattle.job_ends.specs.Shown.{shown_end};
 ghost use Rattle.node_loop.specs.Around as outside;
@@ -12,21 +12,21 @@ ghost use Rattle.node_jobs.specs.Plan.{IsServable, RunsPlan, words_of};
 use crate::members::{are_below, as_bytes};
 use crate::plan::fetch_plan;
 use crate::served::ending;
-use bypass_member::OpenError;
-use event_graph::Stack;
 use file_jobs::fetch_stack;
+use group_member::OpenError;
 use group_open::{Opened, open};
 use job_ends::Ending;
-use job_text::Node;
+use job_text::NodeJob;
 use node_loop::{Course, serve};
 use outside::{Clock, Links, Shelf, Sink};
 use script_mean::{GroupLine, NodePlan};
+use stack_judge::Stack;
 use std::alloc::{AllocError, Global};
 
 /// Runs own members of a plan's group over a network, and writes what they do and what it gives.
 pub fn run_node<S: Shelf, O: Sink, N: Links, C: Clock>(
     alloc: Global,
-    node: &Node<'_>,
+    node: &NodeJob<'_>,
     shelf: &mut S,
     out: &mut O,
     links: &mut N,
@@ -50,7 +50,7 @@ fn serve_plan<O: Sink, N: Links, C: Clock>(
     alloc: Global,
     stack: Stack,
     plan: &NodePlan,
-    node: &Node<'_>,
+    node: &NodeJob<'_>,
     out: &mut O,
     links: &mut N,
     clock: &mut C,

@@ -10,15 +10,15 @@ use Rattle.std.proofs.lemmas.Nat.Bits.{bit_at_above}
 use Rattle.std.proofs.lemmas.List.Sums.{sum_by-cons}
 use Rattle.std.proofs.Math.Nat.{pow-suc}
 use Rattle.std.proofs.Math.Pow.{pow_mono, pow_pos}
-use Rattle.msg_core.specs.View.{ids, member_count, rank}
+use Rattle.msg_core.specs.View.{ids, member_count, rank, first_view, mask_of, last_ltime}
 use Rattle.msg_core.specs.declared.packet.Dest.{Dest}
 use Rattle.msg_core.specs.declared.packet.Dest.TheVariants as dest
 use Rattle.msg_core.specs.declared.packet.Packet.{Packet}
 use Rattle.msg_core.specs.declared.packet.View.{View}
-use Rattle.layer_ast.specs.declared.tokens.Dir.{Dir}
-use Rattle.layer_ast.specs.declared.tokens.Dir.TheVariants.{Up, Down}
-use Rattle.layer_ast.specs.declared.tokens.Kind.{Kind}
-use Rattle.layer_ast.specs.declared.tokens.Kind.TheVariants as kind
+use Rattle.layer_words.specs.declared.events.Dir.{Dir}
+use Rattle.layer_words.specs.declared.events.Dir.TheVariants.{Up, Down}
+use Rattle.layer_words.specs.declared.events.Kind.{Kind}
+use Rattle.layer_words.specs.declared.events.Kind.TheVariants as kind
 use Rattle.layer_mean.specs.declared.run.Event.{Event}
 use Rattle.layer_mean.specs.Tree.{LayerTree}
 use Rattle.layer_mean.specs.State.{State}
@@ -33,7 +33,6 @@ use Rattle.member_laws.specs.Members.{IsChainedWorld}
 use Rattle.member_laws.proofs.Members.{bits_le, cons_each, each_unit}
 use Rattle.run_mean.specs.Common.{plan_after, plan_for, short_from, with_plans}
 use Rattle.run_mean.specs.Journal.{receivers, handed_output, handed_in}
-use Rattle.run_mean.specs.View.{first_view, mask_of, last_ltime}
 use Rattle.run_mean.specs.Member.{inside, out, opened_member, installed_member, Output, deliver_cast, deliver_send}
 use Rattle.run_mean.specs.Member.{block, announce}
 use Rattle.run_mean.specs.Member.{packet, nowhere, timer, quiet, packet_to, above, below, output_of, announced_ranks}

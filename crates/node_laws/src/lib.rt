@@ -55,7 +55,7 @@ pub fn asking_ends()
 {}
 
 /// A node that stopped could have gone on.
-pub fn stopped_goes_on()
+pub fn law_stopped_goes_on()
     ensures { StoppedGoesOn }
 {}
 

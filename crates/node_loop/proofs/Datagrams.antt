@@ -5,7 +5,7 @@ use Rattle.std.proofs.lemmas.List.{map-append}
 use Rattle.std.specs.Prelude.{Result, Err, IfSome, IsSomeAnd, option_to_list, slice_get}
 use Rattle.std.specs.List.{AllByRecursion}
 use Rattle.std.specs.Option.{option_map}
-use Rattle.file_layer.proofs.Lists.{all-following}
+use Rattle.live_layer.proofs.Lists.{all-following}
 use Rattle.outside.specs.Links.{Network, Sends, after_send, faults_after_call, is_failure, next_fate}
 use Rattle.outside.specs.declared.links.LinkError.{LinkError}
 use Rattle.outside.specs.declared.links.TheConstants.{LONGEST_DATAGRAM}

@@ -22,7 +22,7 @@ use Rattle.stack_mean.specs.Plan.{Plan}
 use Rattle.stack_mean.specs.Plans.{plans_of}
 use Rattle.run_mean.specs.Member.{opened_member}
 use Rattle.run_mean.specs.Report.{end_line}
-use Rattle.run_mean.specs.View.{first_view}
+use Rattle.msg_core.specs.View.{first_view}
 use Rattle.group_mean.specs.Node.{node_words}
 use Rattle.outside.specs.Lines.{Wrote}
 use Rattle.outside.specs.Tells as output

@@ -6,7 +6,7 @@ use Rattle.std.proofs.lemmas.Option.{get_or_from_slice_get}
 use Rattle.std.specs.Prelude.{Result, Ok, Err, IsSomeAnd, slice_get}
 use Rattle.std.specs.List.{AllByRecursion, flat_map}
 use Rattle.outside.specs.declared.sink.SinkError.{SinkError}
-use Rattle.file_layer.proofs.Lists.{all-following, all-front}
+use Rattle.live_layer.proofs.Lists.{all-following, all-front}
 use Rattle.layer_mean.specs.Tree.{LayerTree}
 use Rattle.packet_mean.specs.declared.here.Here.{Here}
 use Rattle.stack_mean.specs.Plan.{Plan}

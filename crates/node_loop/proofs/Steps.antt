@@ -325,7 +325,7 @@ module _ (stack : List LayerTree) (plans : List Plan) (c : Course) (b : Begun) w
           clock_told = so.clock_told;
         }
 
-    -- The same where memory ran out between two things.
+    -- Where memory ran out between two things.
     pub cut_none : (a' : Around) → a' ≡ at.around → CutOff stack plans c b sink.Memory a' at.clock
     cut_none a' same = subst (λ a. CutOff stack plans c b sink.Memory a at.clock) (sym same)
         (cut [] [] (acts_of b.mode stack plans so.world left []) at.around sink.Memory refl

@@ -29,7 +29,7 @@ pub record HandedSome (sent : List Handed) (heard : List Heard) (n n' : Network)
   pub handed : n'.handed ≡ n.handed ++ map sent_as sent
   pub met : n'.met ≡ n.met ++ map met_as heard
 
--- The same, and these listens came meanwhile.
+-- These listens came, this was handed to a network, and this was heard of it.
 pub record WentOn (listens : List Listen) (sent : List Handed) (heard : List Heard) (n n' : Network) : Type 0 where
   pub listened : n'.listened ≡ n.listened ++ listens
   pub some : HandedSome sent heard n n'

@@ -26,6 +26,6 @@ pub struct Progress {
 }
 
 /// A number of a plan, or of a turn, has 32 bits.
-pub(crate) fn number_fits(number: u32)
+pub(crate) fn law_number_fits(number: u32)
     ensures { IsNumber number }
 {}

@@ -17,12 +17,12 @@ ghost use Rattle.node_loop.specs.Feeding.{Feeds, IsOwn, IsUp, Rests, RestsAgain}
 use crate::course::Course;
 use crate::desk::NodeDesk;
 use crate::outputs::pass_stepped;
-use crate::source::Source;
+use crate::source::OutputSource;
 use group_feed::Feed;
 use outside::{Links, Sink, SinkError, put_line};
 use report_lines::{Line, journal_line};
 use script_mean::{ScriptEvent, member_of};
-use step_outputs::an_accepted_stack_is_light;
+use step_outputs::law_accepted_is_light;
 use view_core::Did;
 
 /// Puts the line of an event.
@@ -39,27 +39,27 @@ fn write_journal<O: Sink>(
 }
 
 /// The bytes of a slice are bytes.
-fn are_bytes(_bytes: &[u8])
+fn law_bytes(_bytes: &[u8])
     ensures { AreBytes _bytes.now }
 {}
 
 /// A number of 32 bits is one.
-fn is_number(_number: u32)
+fn law_number(_number: u32)
     ensures { IsNumber _number }
 {}
 
 /// An event has bytes and numbers in range.
-pub(crate) fn is_given(event: &ScriptEvent)
+pub(crate) fn law_given(event: &ScriptEvent)
     ensures { IsGivenEvent event.now }
 {
     match event {
-        ScriptEvent::Cast(_, body) => are_bytes(body.slice()),
+        ScriptEvent::Cast(_, body) => law_bytes(body.slice()),
         ScriptEvent::Send(_, to, body) => {
-            is_number(*to);
-            are_bytes(body.slice());
+            law_number(*to);
+            law_bytes(body.slice());
         }
-        ScriptEvent::Tick(_, moment) => is_number(*moment),
-        ScriptEvent::Raw(_, bytes) => are_bytes(bytes.slice()),
+        ScriptEvent::Tick(_, moment) => law_number(*moment),
+        ScriptEvent::Raw(_, bytes) => law_bytes(bytes.slice()),
         ScriptEvent::Leave(_) | ScriptEvent::Give(_, _) | ScriptEvent::Show(_) => {}
     }
 }
@@ -86,15 +86,15 @@ pub(crate) fn feed_event<F: Feed, O: Sink, N: Links>(
     ensures listening { (m : ℕ) → N.listening links.new m ≡ N.listening links.old m }
 {
     write_journal(&mut desk.tools.line, event, out)?;
-    course.stack.stack().is_within_limits();
-    is_given(event);
+    course.stack.stack().law_within_limits();
+    law_given(event);
     let number = feed.next_number();
     let mut visits = 0;
     match feed.feed(event, &mut desk.outputs, &mut visits)? {
         Did::Stepped(stepped) => {
-            an_accepted_stack_is_light(course.stack.stack());
-            desk.outputs.has_places_for_all();
-            let source = Source {
+            law_accepted_is_light(course.stack.stack());
+            desk.outputs.law_places_for_all();
+            let source = OutputSource {
                 stack: course.stack,
                 plans: course.plans,
                 id: member_of(event),

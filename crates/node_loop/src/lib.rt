@@ -6,7 +6,6 @@ mod desk;
 mod error;
 mod feeding;
 mod outputs;
-mod receivers;
 mod sending;
 mod serving;
 mod source;

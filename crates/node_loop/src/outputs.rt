@@ -12,7 +12,7 @@ ghost use Rattle.node_loop.specs.Passing.{Handles};
 ghost use Rattle.node_loop.specs.Source.{MayPass, acts_of_output, acts_of_outputs, acts_of_step};
 
 use crate::sending::hand_on;
-use crate::source::Source;
+use crate::source::OutputSource;
 use crate::tools::Tools;
 use outside::{Links, Sink, SinkError};
 use packet_mean::Here;
@@ -23,7 +23,7 @@ use view_core::{Change, Stepped};
 /// Puts the line of an output, and hands it on if it is a packet.
 fn pass_output<O: Sink, N: Links>(
     tools: &mut Tools,
-    source: Source<'_>,
+    source: OutputSource<'_>,
     here: &Here,
     output: &OutputView<'_>,
     out: &mut O,
@@ -51,7 +51,7 @@ fn pass_output<O: Sink, N: Links>(
 /// Puts the lines of a step's outputs, and hands its packets on.
 fn pass_outputs<O: Sink, N: Links>(
     tools: &mut Tools,
-    source: Source<'_>,
+    source: OutputSource<'_>,
     outputs: &Outputs,
     out: &mut O,
     links: &mut N,
@@ -67,7 +67,7 @@ fn pass_outputs<O: Sink, N: Links>(
         let output = outputs.at(k);
         pass_output(
             tools,
-            Source { number, ..source },
+            OutputSource { number, ..source },
             &here,
             &output,
             out,
@@ -81,7 +81,7 @@ fn pass_outputs<O: Sink, N: Links>(
 /// Puts the lines of a step that was taken, and hands its packets on.
 fn pass_taken<O: Sink, N: Links>(
     tools: &mut Tools,
-    source: Source<'_>,
+    source: OutputSource<'_>,
     outputs: &Outputs,
     change: Option<Change>,
     out: &mut O,
@@ -99,7 +99,7 @@ fn pass_taken<O: Sink, N: Links>(
 /// Puts the lines of a step, and hands its packets on.
 pub(crate) fn pass_stepped<O: Sink, N: Links>(
     tools: &mut Tools,
-    source: Source<'_>,
+    source: OutputSource<'_>,
     outputs: &Outputs,
     stepped: Stepped,
     out: &mut O,

@@ -13,8 +13,7 @@ ghost use Rattle.node_laws.specs.Acts.{sending_acts};
 ghost use Rattle.node_loop.specs.Sending.{MayTake, datagram_of, sent_to};
 ghost use Rattle.stack_shapes.specs.Trees.{plans_tree};
 
-use crate::receivers::{has, member_at};
-use crate::source::Source;
+use crate::source::OutputSource;
 use crate::tools::Tools;
 use msg_core::{Dest, MOST_MEMBERS, View};
 use outside::{LONGEST_DATAGRAM, LinkError, Links, Sink, SinkError, put_line};
@@ -22,6 +21,7 @@ use packet_full::PacketView;
 use packet_mean::Here;
 use report_lines::{Line, lost_line};
 use report_text::spell;
+use view_masks::{has, member_at};
 
 /// A datagram on its way out: who sends it, and the number of its packet.
 #[derive(Clone, Copy)]
@@ -79,7 +79,7 @@ fn send_to_others<O: Sink, N: Links>(
     ensures listening { (m : ℕ) → N.listening links.new m ≡ N.listening links.old m }
 {
     for to in 0..MOST_MEMBERS {
-        if has(view, to) && to != sending.from {
+        if has(view.mask, to) && to != sending.from {
             send_to(line, sending, to, out, links)?;
         }
     }
@@ -115,7 +115,7 @@ fn send_to_all_of<O: Sink, N: Links>(
 /// Hands a packet on to those that it is for, as it is sent; for each sending that fails a line says so.
 pub(crate) fn hand_on<O: Sink, N: Links>(
     tools: &mut Tools,
-    source: Source<'_>,
+    source: OutputSource<'_>,
     here: &Here,
     packet: &PacketView<'_>,
     out: &mut O,

@@ -6,7 +6,7 @@ ghost use Rattle.group_mean.specs.Node.{node_words};
 ghost use Rattle.stack_mean.specs.Acceptance.{largest_weight};
 ghost use Rattle.stack_mean.specs.Plans.{plans_of};
 ghost use Rattle.chain_laws.specs.Runs.{TypedStack};
-ghost use Rattle.event_graph.specs.Answer.{stack_tree};
+ghost use Rattle.stack_judge.specs.Answer.{stack_tree};
 ghost use Rattle.node_laws.specs.Stages.{AreOrdered, from_turn};
 ghost use Rattle.node_loop.specs.Around.{around};
 ghost use Rattle.node_loop.specs.Course.{Begun, Made, SoFar, course_of, now, plans_in, stack_in};
@@ -16,18 +16,18 @@ ghost use Rattle.node_loop.specs.Serve.{Serves, first_of_plan, whereabouts};
 ghost use Rattle.group_feed.specs.Standing.{Stands};
 ghost use Rattle.msg_core.specs.View.{most_members};
 
-use crate::course::{Course, Progress, number_fits};
+use crate::course::{Course, Progress, law_number_fits};
 use crate::desk::NodeDesk;
 use crate::error::NodeError;
 use crate::tools::Tools;
 use crate::turns::turn;
-use event_graph::Stack;
 use group_feed::Feed;
 use msg_core::Memory;
-use node_laws::stopped_goes_on;
+use node_laws::law_stopped_goes_on;
 use outside::{Clock, LONGEST_DATAGRAM, Links, Peer, Sink};
 use report_lines::Line;
 use report_text::{Pen, write_end};
+use stack_judge::Stack;
 use std::alloc::{AllocError, Global};
 use step_outputs::Outputs;
 
@@ -43,7 +43,7 @@ fn desk(alloc: Global, stack: &Stack) -> Result<NodeDesk, Memory>
     ensures places { IfOk result (λ d. d.outputs.places ≡ largest_weight (stack_tree stack.now)) }
     ensures none { IfOk result (λ d. d.events ≡ 0) }
 {
-    let outputs = Outputs::fresh(alloc, stack)?;
+    let outputs = Outputs::new(alloc, stack)?;
     let room = room(alloc)?;
     Ok(NodeDesk {
         alloc,
@@ -143,9 +143,9 @@ pub fn serve<F: Feed, O: Sink, N: Links, C: Clock>(
         (whereabouts (around O.Sink N.Links out.old links.old) (C.told clock.old))
         (whereabouts (around O.Sink N.Links out.new links.new) (C.told clock.new)) result }
 {
-    stopped_goes_on();
-    number_fits(course.plan.group);
-    number_fits(course.plan.stamp);
+    law_stopped_goes_on();
+    law_number_fits(course.plan.group);
+    law_number_fits(course.plan.stamp);
     let mut desk = desk(alloc, course.stack.stack())?;
     listen_all(course.plan.peers.slice(), course.me, links)?;
     make_turns(feed, course, &mut desk, patience, out, links, clock)?;

@@ -19,7 +19,7 @@ ghost use Rattle.node_loop.specs.Course.{stack_in};
 ghost use Rattle.node_loop.specs.Feeding.{IsOwn, IsUp, RestsAgain};
 ghost use Rattle.msg_core.specs.View.{most_members};
 
-use crate::course::{Course, Progress, number_fits};
+use crate::course::{Course, Progress, law_number_fits};
 use crate::desk::NodeDesk;
 use crate::error::NodeError;
 use crate::feeding::feed_on;
@@ -308,7 +308,7 @@ pub(crate) fn turn<F: Feed, O: Sink, N: Links, C: Clock>(
 {
     let _entries = course.plan.turns.slice();
     let t = progress.turn;
-    number_fits(t);
+    law_number_fits(t);
     let moment = clock.now();
     tick_all(feed, course, desk, moment, out, links)?;
     ask_all(feed, course, desk, &mut progress.patience, out, links)?;

@@ -13,12 +13,13 @@ use Rattle.stack_mean.specs.Acceptance.{acceptance}
 use Rattle.end_mean.specs.Status.{FileFault, too_large, bad_token, unexpected, unknown, twice, over_limit, wrong_kind}
 use Rattle.end_mean.specs.Status.{arity, direction, header, initial, cycle, too_many, too_many_joins}
 
--- A fault of names or types, and a refusal of the stack, as the program says them.
+-- A fault of names, as the program says it.
 abbrev pub said_name : faults.NameFault → FileFault
 said_name (faults.unknown at) = unknown at
 said_name (faults.twice at) = twice at
 said_name (faults.too_many at) = over_limit at
 
+-- A fault of types, as the program says it.
 abbrev pub said_type : faults.TypeFault → FileFault
 said_type (faults.kind at) = wrong_kind at
 said_type (faults.arity at) = arity at
@@ -26,10 +27,12 @@ said_type (faults.direction at) = direction at
 said_type (faults.header at) = header at
 said_type (faults.initial at) = initial at
 
+-- A fault of a file, of its names or of its types, as the program says it.
 abbrev pub said_fault : faults.FileFault → FileFault
 said_fault (faults.of_names fault) = said_name fault
 said_fault (faults.of_types fault) = said_type fault
 
+-- Why a stack isn't accepted, as the program says it.
 abbrev pub said_refusal : limits.Refusal → FileFault
 said_refusal (limits.cycle place kind) = cycle place kind
 said_refusal (limits.too_many weight) = too_many weight

@@ -15,6 +15,7 @@ pub record Listen : Type 0 where
   pub member : ℕ
   pub peers : List Peer
 
+-- a listen of this member, where the members are reached at these peers
 abbrev pub listen_of : List Peer → ℕ → Listen
 listen_of peers member = record { member = member; peers = peers }
 

@@ -11,6 +11,7 @@ pub record Errors : Type 0 where
   pub after : Tells
   pub status : ℕ
 
+-- What the standard error told before and after, with the status.
 abbrev pub errors : Tells → Tells → ℕ → Errors
 errors before after status = record {
   before = before;

@@ -8,6 +8,7 @@ pub record Tells : Type 0 where
   pub failures : Option (List (Option ℕ))
   pub faults : ℕ
 
+-- What a sink tells that has these contents, failures to come and count of faults.
 abbrev pub tells : Option (List ℕ) → Option (List (Option ℕ)) → ℕ → Tells
 tells contents failures faults = record { contents = contents; failures = failures; faults = faults }
 

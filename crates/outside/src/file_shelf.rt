@@ -20,8 +20,8 @@ pub struct FileShelf<R: Files + Drop> {
 }
 
 impl<R: Files + Drop> FileShelf<R> {
-    /// A shelf over the runtime, as `FileShelf::of(&rt)`.
-    pub fn of(files: R) -> Self
+    /// A shelf over the runtime, as `FileShelf::new(&rt)`.
+    pub fn new(files: R) -> Self
         ensures { ⟦<FileShelf<R> as Shelf>⟧.faults result ≡ 0 }
     {
         FileShelf { files, faults: 0 }

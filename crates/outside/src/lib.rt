@@ -49,7 +49,7 @@ pub use mem_links::MemLinks;
 pub use mem_shelf::{MemShelf, StillShelf};
 pub use mem_sink::{MemSink, StillSink};
 pub use named_file::NamedFile;
-pub use puts::{put_line, say_line};
+pub use puts::{NO_MEMORY, put_line, say_line};
 pub use run_clock::RunClock;
 pub use shelf::{Got, Shelf, ShelfError};
 pub use sink::{Sink, SinkError};

@@ -11,7 +11,8 @@ pub struct MemClock {
 }
 
 impl MemClock {
-    pub fn of(moments: Vec<u32>) -> Self
+    /// A clock that hasn't been asked yet, with these moments to give in their order.
+    pub fn new(moments: Vec<u32>) -> Self
         ensures { ⟦<MemClock as Clock>⟧.told result ≡ Some moments.items }
     {
         MemClock { moments, given: 0 }

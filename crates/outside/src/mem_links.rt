@@ -46,7 +46,7 @@ impl MemLinks {
     /// A network in which nothing waits and nobody listens. The lists say, in their order, what becomes of each send,
     /// and which calls of `listen` and of `recv` are to fail; after their ends a datagram arrives once and no call is
     /// to fail.
-    pub fn of(alloc: Global, fates: Vec<Fate>, listens: Vec<bool>, recvs: Vec<bool>) -> Self
+    pub fn new(alloc: Global, fates: Vec<Fate>, listens: Vec<bool>, recvs: Vec<bool>) -> Self
         ensures told { ⟦<MemLinks as Links>⟧.told result ≡
             Some (record {
               listened = [];

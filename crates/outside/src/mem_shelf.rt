@@ -24,7 +24,7 @@ pub struct StillShelf {
 
 impl MemShelf {
     /// A shelf of these files. The list says, in their order, which reads are to fail; later ones are not to.
-    pub fn of(files: Vec<NamedFile>, failures: Vec<bool>) -> Self
+    pub fn new(files: Vec<NamedFile>, failures: Vec<bool>) -> Self
         ensures told { ⟦<MemShelf as Shelf>⟧.told result ≡ Some (shelf_of files.items failures.items) }
         ensures faults { ⟦<MemShelf as Shelf>⟧.faults result ≡ 0 }
     {

@@ -17,7 +17,7 @@ pub struct MemSink {
 impl MemSink {
     /// An empty sink. The list says, in their order, how many bytes each put that is to fail appends first; later puts
     /// are not to fail.
-    pub fn of(alloc: Global, failures: Vec<Option<u64>>) -> Self
+    pub fn new(alloc: Global, failures: Vec<Option<u64>>) -> Self
         ensures contents { ⟦<MemSink as Sink>⟧.contents result ≡ Some [] }
         ensures failures { ⟦<MemSink as Sink>⟧.failures result ≡ Some failures.items }
         ensures faults { ⟦<MemSink as Sink>⟧.faults result ≡ 0 }

@@ -10,7 +10,7 @@ ghost use Rattle.outside.specs.Said.{EndsSo, SaysLine, errors};
 use crate::sink::{Sink, SinkError};
 
 /// The status where memory ran out.
-const NO_MEMORY: u8 = 7;
+pub const NO_MEMORY: u8 = 7;
 
 /// Puts one line on a sink.
 pub fn put_line<O: Sink>(line: &[u8], out: &mut O) -> Result<(), SinkError>

@@ -16,8 +16,8 @@ pub struct RunClock<R: SystemClock + Drop> {
 }
 
 impl<R: SystemClock + Drop> RunClock<R> {
-    /// A clock over the runtime, as `RunClock::of(&rt)`.
-    pub fn of(system: R) -> Self {
+    /// A clock over the runtime, as `RunClock::new(&rt)`.
+    pub fn new(system: R) -> Self {
         let start = Instant::now(&system).ok();
         RunClock {
             system,

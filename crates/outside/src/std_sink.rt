@@ -16,7 +16,7 @@ use std::io::{ErrorKind, Write};
 /// How many bytes are gathered before they are handed on.
 const GATHERED: usize = 65536;
 
-/// A stream of the system, as `StdSink::of(alloc, rt.stdout())`. It gathers what is put and hands it on in large
+/// A stream of the system, as `StdSink::new(alloc, rt.stdout())`. It gathers what is put and hands it on in large
 /// pieces, so call `finish` at the end. After it was made it takes no memory.
 #[derive(Drop)]
 pub struct StdSink<W: Write + Drop> {
@@ -32,7 +32,7 @@ impl<W: Write + Drop> StdSink<W> {
     ghost use Rattle.outside.specs.Stream.{stream_of};
 
     /// A sink over the stream, which gathers up to 64 KiB.
-    pub fn of(alloc: Global, stream: W) -> Result<Self, AllocError>
+    pub fn new(alloc: Global, stream: W) -> Result<Self, AllocError>
         ensures contents { IfOk result (λ sink. Keeps (W.contents stream) (⟦<StdSink<W> as Sink>⟧.contents sink)) }
         ensures faults { IfOk result (λ sink. ⟦<StdSink<W> as Sink>⟧.faults sink ≡ 0) }
     {

@@ -3,8 +3,8 @@ use Rattle.std.proofs.Common.{◌≡◌, ℕ, zero, suc, ◌<◌, List, [], ◌�
 use Rattle.std.proofs.Common.{bytes_eq, refl}
 use Rattle.std.specs.Prelude.{take}
 use Rattle.std.proofs.lemmas.List.Quantifiers.{position-Some}
-use Rattle.layer_ast.specs.declared.syntax.Function.{Function}
-use Rattle.layer_ast.specs.declared.syntax.Shape.TheVariants.{One, Array, Square}
+use Rattle.layer_words.specs.declared.operators.Function.{Function}
+use Rattle.layer_words.specs.declared.sorts.Shape.TheVariants.{One, Array, Square}
 use Rattle.layer_mean.specs.Tree.{Carried, Form, LayerTree, numbers, queue, queues}
 use Rattle.trace_mean.specs.Trace.{Atom, number, Core, TraceNumber, atom, me, count, ltime, item, binary, TraceMessage}
 use Rattle.trace_mean.specs.Trace.{held}

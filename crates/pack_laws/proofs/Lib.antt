@@ -1,9 +1,15 @@
+pub mod Course
+pub mod Stands
+pub mod SameActs
+pub mod SafeActs
+pub mod Counts
+pub mod Replacement
 pub mod Readers
 pub mod Form
 pub mod Operations
 pub mod Spelled
 pub mod Reading
-pub mod Replaced
+pub mod Accepted
 pub mod Writing
 pub mod Words
 pub mod Said

@@ -5,22 +5,24 @@ use Rattle.std.proofs.Common.{replicate, refl, sym, ap, ◌∙◌, subst, append
 use Rattle.std.specs.Prelude.{if◌then◌else◌, take}
 use Rattle.std.specs.Option.{option_map_or}
 use Rattle.std.proofs.lemmas.List.{length-map}
-use Rattle.layer_ast.specs.Printed.{direction_sign}
-use Rattle.layer_ast.specs.Spelling.{beside, kind_word}
+use Rattle.layer_words.specs.Signs.{direction_sign}
+use Rattle.layer_words.specs.Spelling.{beside, kind_word}
 use Rattle.layer_mean.specs.Tree.{Carried, ItemsTree, LayerTree}
 use Rattle.msg_core.specs.Headers.{most_fields}
 use Rattle.trace_mean.specs.Trace as trace
 use Rattle.trace_mean.specs.Trace.{Atom, Core, TraceNumber, element, square, Link, Chained, Operation}
 use Rattle.trace_mean.specs.Trace.{bind, note, check, set, push, output}
 use Rattle.trace_mean.specs.Fuse.{fields_of}
-use Rattle.bypass_mean.specs.Text.{layer_of, sign_text, bracketed_list, atom_text, core_text, number_text, message_text}
+use Rattle.bypass_mean.specs.Text.{layer_of, bracketed_list, atom_text, core_text, number_text, message_text}
+use Rattle.layer_words.specs.Spelling.{sign_text}
 use Rattle.bypass_mean.specs.Text.{link_text, following, pushed_text}
 use Rattle.pack_mean.specs.Reader.{Reader, ◌>>=◌, yields, the_text, a_word, each_of, more_of}
 use Rattle.pack_mean.specs.Named.{Named, items_at, atom_named, core_named, kind_named}
 use Rattle.pack_mean.specs.Expression.{inside, most_brackets, a_number, a_message, a_queue}
 use Rattle.pack_mean.specs.Operation.{an_atom, a_core, tag_named, a_link, links_after, some_links, a_chain, a_chained}
 use Rattle.pack_mean.specs.Operation.{row_message, Sent, nothing_sent, a_last, or_no_more, sent_by, sent_within}
-use Rattle.pack_mean.specs.Operation.{what_is_sent, chained_after, directions, setting, a_bind, a_note, a_check, a_set}
+use Rattle.pack_mean.specs.Operation.{what_is_sent, chained_after, setting, a_bind, a_note, a_check, a_set}
+use Rattle.layer_words.specs.Signs.{directions}
 use Rattle.pack_mean.specs.Operation.{a_push, a_take, an_output, operation_by}
 use Rattle.pack_laws.specs.Written.{written_with, line_with, WhatIsReadIsWrittenSo}
 use Rattle.pack_laws.proofs.Readers.{some_same, Gives, gives_value, gives_past}

@@ -3,7 +3,7 @@ use Rattle.std.proofs.Common.{◌≡◌, ℕ, zero, suc, ◌+◌, Bool, true, fa
 use Rattle.std.proofs.Common.{Some, None, codes, decimal, bytes_eq, replicate, refl}
 use Rattle.std.specs.Prelude.{if◌then◌else◌, take}
 use Rattle.std.specs.List.{AllByRecursion}
-use Rattle.layer_ast.specs.Spelling.{beside}
+use Rattle.layer_words.specs.Spelling.{beside}
 use Rattle.layer_mean.specs.Tree.{Carried, LayerTree}
 use Rattle.msg_core.specs.Headers.{most_fields}
 use Rattle.trace_mean.specs.Trace as trace
@@ -20,7 +20,8 @@ use Rattle.pack_mean.specs.Named.{Named, items_at, atom_named, core_named, kind_
 use Rattle.pack_mean.specs.Expression.{inside, most_brackets, a_cell, a_number, a_message, a_queue}
 use Rattle.pack_mean.specs.Operation.{an_atom, tag_named, a_link, links_after, some_links, a_chain, a_chained}
 use Rattle.pack_mean.specs.Operation.{comma_after, row_message, Sent, nothing_sent, a_last, or_no_more, sent_by}
-use Rattle.pack_mean.specs.Operation.{sent_within, what_is_sent, chained_after, directions, setting, a_bind, a_note}
+use Rattle.pack_mean.specs.Operation.{sent_within, what_is_sent, chained_after, setting, a_bind, a_note}
+use Rattle.layer_words.specs.Signs.{directions}
 use Rattle.pack_mean.specs.Operation.{a_check, a_set, a_push, a_take, an_output, operation_by, operation_said}
 use Rattle.pack_laws.proofs.Readers.{some_same, Gives, gives_value, gives_given, gives_nowhere, gives_then, gives_past}
 use Rattle.pack_laws.proofs.Readers.{gives_name, gives_word, gives_known, gives_text, gives_case, gives_either}

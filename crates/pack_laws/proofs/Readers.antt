@@ -46,20 +46,23 @@ pub gives_past : {A B : Type 0} (Q : B → Type 0) (read : Reader A) (next : A �
     Gives Q (read >>= next)
 gives_past Q read next k = gives_then (λ x. Unit {0}) Q read next record { said = λ text x rest is. tt } (λ x h. k x)
 
--- The same after a name, a word, what there is, and a text.
+-- After a name.
 pub gives_name : {B : Type 0} (Q : B → Type 0) (next : List (List ℕ) → Reader B) →
     ((name : List (List ℕ)) → Gives Q (next name)) →
     Gives Q (a_name >>= next)
 gives_name Q next k = gives_past Q a_name next k
 
+-- After a word.
 pub gives_word : {B : Type 0} (Q : B → Type 0) (next : List ℕ → Reader B) → ((word : List ℕ) → Gives Q (next word)) →
     Gives Q (a_word >>= next)
 gives_word Q next k = gives_past Q a_word next k
 
+-- After a value that was there before, if there was one.
 pub gives_known : {A B : Type 0} (Q : B → Type 0) (o : Option A) (next : A → Reader B) → ((x : A) → Gives Q (next x)) →
     Gives Q (option_reader o >>= next)
 gives_known Q o next k = gives_past Q (option_reader o) next k
 
+-- After a text that is wanted.
 pub gives_text : {B : Type 0} (Q : B → Type 0) (wanted : List ℕ) (next : Unit {0} → Reader B) →
     ((u : Unit {0}) → Gives Q (next u)) →
     Gives Q (the_text wanted >>= next)

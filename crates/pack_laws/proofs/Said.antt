@@ -2,15 +2,16 @@
 use Rattle.std.proofs.Common.{◌≡◌, ℕ, zero, suc, List, [], ◌∷◌, ◌++◌, slice_index_or, Option, Some, None, codes}
 use Rattle.std.proofs.Common.{bytes_eq, refl, sym, ap, ◌∙◌, subst, append_assoc}
 use Rattle.std.specs.Prelude.{take}
-use Rattle.layer_ast.specs.declared.syntax.Function.{Function}
-use Rattle.layer_ast.specs.declared.syntax.Shape.TheVariants.{One, Array, Square}
+use Rattle.layer_words.specs.declared.operators.Function.{Function}
+use Rattle.layer_words.specs.declared.sorts.Shape.TheVariants.{One, Array, Square}
 use Rattle.layer_mean.specs.Tree.{Carried, Form, LayerTree, numbers, queue, queues}
 use Rattle.trace_mean.specs.Trace.{Atom, number, Core, TraceNumber, atom, item, binary, TraceMessage, held}
 use Rattle.trace_mean.specs.Fuse.{form_at}
 use Rattle.bypass_mean.specs.Text.{layer_of, bracketed_index, bracketed_list, with_index, cell_name, cell_text}
 use Rattle.bypass_mean.specs.Text.{number_text}
-use Rattle.bypass_mean.specs.Text.{message_text, sign_text}
-use Rattle.layer_ast.specs.Printed.{function_sign}
+use Rattle.bypass_mean.specs.Text.{message_text}
+use Rattle.layer_words.specs.Spelling.{sign_text}
+use Rattle.layer_words.specs.Signs.{function_sign}
 use Rattle.pack_mean.specs.Reader.{◌>>=◌, the_text, a_name}
 use Rattle.pack_mean.specs.Named.{Named, items_at, place_of, atom_named, core_named, cell_named, function_named}
 use Rattle.pack_mean.specs.Named.{operator_named}

@@ -5,10 +5,10 @@ use Rattle.std.proofs.Common.{bytes_eq, refl, sym, ap, ◌∙◌, subst, inl, in
 use Rattle.std.specs.Prelude.{if◌then◌else◌}
 use Rattle.std.proofs.Math.ListN.{get_or-map}
 use Rattle.std.proofs.lemmas.List.{length-map, map-append}
-use Rattle.layer_ast.specs.declared.syntax.Shape.TheVariants.{One, Array, Square}
+use Rattle.layer_words.specs.declared.sorts.Shape.TheVariants.{One, Array, Square}
 use Rattle.layer_mean.specs.Tree.{CellTree, Form, ItemsTree, LayerTree, numbers, queue, queues}
 use Rattle.script_mean.specs.Words.{number_of}
-use Rattle.file_laws.specs.Named.{shape_in, alone_in, among_in}
+use Rattle.chain_laws.specs.Named.{shape_in, alone_in, among_in}
 use Rattle.trace_mean.specs.Trace.{Atom, number, peer, field, bound, Core, body, noted, nothing, Operation, bind, note}
 use Rattle.trace_mean.specs.Trace.{check, set, set_square, push, take, output}
 use Rattle.trace_mean.specs.Fuse.{form_at, items_of}

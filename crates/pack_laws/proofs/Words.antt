@@ -16,21 +16,23 @@ use Rattle.std.proofs.lemmas.Str.Parse.{numerals_by_value, tells_all_ascii_digit
 use Rattle.std.proofs.lemmas.List.FromFn.{get_or-map-range_with_len}
 use Rattle.std.proofs.lemmas.List.Quantifiers.{position-Some}
 use Rattle.std.proofs.lemmas.Slice.Eq.{bytes_eq-Decides}
-use Rattle.layer_ast.specs.declared.syntax.Function.{Function}
-use Rattle.layer_ast.specs.declared.syntax.Operator.{Operator}
-use Rattle.layer_ast.specs.declared.tokens.Dir.{Dir}
-use Rattle.layer_ast.specs.declared.tokens.Kind.{Kind}
-use Rattle.layer_ast.specs.Printed.{direction_sign, function_sign, operator_sign}
-use Rattle.layer_ast.specs.Spelling.{beside, kinds, kind_word, reserved, symbols}
+use Rattle.layer_words.specs.declared.operators.Function.{Function}
+use Rattle.layer_words.specs.declared.operators.Operator.{Operator}
+use Rattle.layer_words.specs.declared.events.Dir.{Dir}
+use Rattle.layer_words.specs.declared.events.Kind.{Kind}
+use Rattle.layer_words.specs.Signs.{direction_sign, function_sign, operator_sign}
+use Rattle.layer_words.specs.Spelling.{beside, kinds, kind_word, reserved, symbols}
 use Rattle.layer_mean.specs.Headers.{header_of_tag, header_none}
 use Rattle.layer_mean.specs.Tree.{CellTree, Form, HeaderTree, ItemsTree, LayerTree, numbers, queue, queues}
 use Rattle.script_mean.specs.Words.{is_plain, within, number_of}
 use Rattle.trace_mean.specs.Trace.{Atom, number, peer, field, bound, Core, body, noted, nothing}
-use Rattle.bypass_mean.specs.Text.{sign_text, layer_of, numbers_called, cell_name, atom_text, core_text}
+use Rattle.layer_words.specs.Spelling.{sign_text}
+use Rattle.bypass_mean.specs.Text.{layer_of, numbers_called, cell_name, atom_text, core_text}
 use Rattle.pack_mean.specs.Named.{Named, items_in, no_items, below, place_of, row_number, row_message, atom_named}
 use Rattle.pack_mean.specs.Named.{core_named, cell_named, kind_named, functions, function_named, operators}
 use Rattle.pack_mean.specs.Named.{operator_named}
-use Rattle.pack_mean.specs.Operation.{tag_named, directions}
+use Rattle.pack_mean.specs.Operation.{tag_named}
+use Rattle.layer_words.specs.Signs.{directions}
 use Rattle.pack_laws.specs.Written.{note_name, written_with}
 use Rattle.pack_laws.proofs.Readers.{through, some_same}
 use Rattle.pack_laws.proofs.Form.{some_mapped}

@@ -46,7 +46,7 @@ writes_then {A = A} {B = B} first front shown read next h k =
           ap (λ l. front ++ l) (h.said text t.0 t.1 e) ∙ sym (append_assoc front (first t.0) t.1) ∙
           (k t.0).said t.1 y rest is
 
--- the same where the first finds what it shows after some bytes, and gives something of which more is known
+-- two readers in a row, where the first finds what it shows after some bytes and gives something of which more is known
 pub writes_such : {A B : Type 0} (P : A → Type 0) (first : A → List ℕ) (before front : List ℕ) (shown : B → List ℕ)
     (read : Reader A)
     (next : A → Reader B) → Gives P read → Writes front first read →

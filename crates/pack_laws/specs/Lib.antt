@@ -1,5 +1,9 @@
+pub mod SameActs
+pub mod SafeActs
+pub mod Replacement
+pub mod SymbolSamples
 pub mod Form
-pub mod Replaced
+pub mod Accepted
 pub mod Written
 pub mod Files
 pub mod Samples

@@ -1,8 +1,15 @@
-//! Files of small stacks, read by evaluation: the functions here are empty.
+//! A trace that may be run in place of the definition's, and files of small stacks, by evaluation: the functions here
+//! are empty.
 #![tactic(auto)]
 
 ghost use Rattle.pack_laws.specs.Samples.{CounterIsRead, MessagesAreRead, NumbersAreRead, OperationsAreRead};
 ghost use Rattle.pack_laws.specs.Samples.{OperatorsAreRead, OthersAreRefused, SmallIsRead, SmallIsRefused};
+ghost use Rattle.pack_laws.specs.SymbolSamples.{WrittenOutReplaces};
+
+/// A bind that is written out in its place.
+pub fn written_out_replaces()
+    ensures { WrittenOutReplaces }
+{}
 
 /// A file of own traces.
 pub fn counter_is_read()

@@ -49,12 +49,14 @@ pub data PackFault : Type 0 where
   bad_line : (line : ℕ) → PackFault
   differs : (entry : ℕ) (case : Case) (at : ℕ) → PackFault
 
+-- A file is short enough and in form, and this is its first case whose trace does something else, first at act k.
 pub record Differs (stack : List LayerTree) (text : List ℕ) (entry : ℕ) (case : Case) (k : ℕ) : Type 0 where
   pub short : length text ≤ longest_file
   pub traces : List (List Operation)
   pub read : traces_in stack text ≡ Ok traces
   pub differs : DiffersIn (due_of stack) traces entry case k
 
+-- What holds of a file that is refused for this fault.
 abbrev pub IsFault : List LayerTree → List ℕ → PackFault → Type 0
 IsFault stack text too_large = longest_file < length text
 IsFault stack text (bad_line line) = (length text ≤ longest_file) × (traces_in stack text ≡ Err line)

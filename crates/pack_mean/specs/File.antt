@@ -18,11 +18,12 @@ use Rattle.bypass_mean.specs.Lines.{plan_name}
 use Rattle.pack_mean.specs.Named.{Named, nothing_named, naming}
 use Rattle.pack_mean.specs.Operation.{operation_said}
 
--- The stack's own trace of an entry in a case: none where it has no shape, or a longer one than is kept.
+-- A trace whose entry has a shape in its case, if that isn't longer than is kept.
 abbrev pub within_limit : Result Shape NoShape → Result (List Operation) NoShape → Option (List Operation)
 within_limit (Ok s) (Ok trace) = if nat_le s.length longest_shape then Some trace else None
 within_limit _ _ = None
 
+-- The stack's own trace of an entry in a case: none where it has no shape, or a longer one than is kept.
 abbrev pub own_trace : List LayerTree → Entry → Case → Option (List Operation)
 own_trace stack e case = within_limit (shape stack e.known case) (trace_of case stack e.known e.fields)
 
@@ -34,6 +35,7 @@ pub record Due : Type 0 where
   pub fields : ℕ
   pub own : List Operation
 
+-- The case of entry number n, if the stack has a trace of its own for it.
 abbrev pub due_in : List LayerTree → ℕ → Entry → Case → List Due
 due_in stack n e case = option_to_list (option_map (λ own. record {
   entry = n;
@@ -42,24 +44,27 @@ due_in stack n e case = option_to_list (option_map (λ own. record {
   own = own;
 }) (own_trace stack e case))
 
--- The cases due of entries from a number on, by entry and then by case; and those of a stack.
+-- The cases due of entries, the first of which has the number n, by entry and then by case.
 abbrev pub due_from : List LayerTree → ℕ → List Entry → List Due
 due_from stack n [] = []
 due_from stack n (e ∷ es) = due_in stack n e First ++ due_in stack n e Second ++ due_from stack (suc n) es
 
+-- The cases that a file of a stack has to hold, in their order.
 abbrev pub due_of : List LayerTree → List Due
 due_of stack = due_from stack 0 (entries_of stack)
 
--- How entries and cases are called.
+-- What an entry is called: `cast`, `send`, or `plan K` for the packet of plan K.
 abbrev pub entry_name : ℕ → List ℕ
 entry_name zero = codes "cast"
 entry_name (suc zero) = codes "send"
 entry_name (suc (suc k)) = plan_name k
 
+-- The number by which a file calls a case: 1 or 2.
 abbrev pub case_number : Case → ℕ
 case_number First = 1
 case_number Second = 2
 
+-- The line with which a case begins: `entry NAME case C`.
 abbrev pub heading : ℕ → Case → List ℕ
 heading entry case = codes "entry " ++ entry_name entry ++ codes " case " ++ decimal (case_number case)
 
@@ -81,6 +86,7 @@ pub record Reading : Type 0 where
   pub held : List Operation
   pub traces : List (List Operation)
 
+-- Before the first line, where these cases are due.
 abbrev pub begun : List Due → Reading
 begun due = record { stage = opening due; held = []; traces = [] }
 
@@ -100,6 +106,7 @@ with_operation stack due s zero r o = None
 with_operation stack due s (suc left) r o =
     Some (record r { stage = within due (naming stack s o) left; held = r.held ++ o ∷ [] })
 
+-- A line in a case as the operation that it spells; a line that spells none is out of form.
 abbrev pub operation_line : List LayerTree → List Due → Named → ℕ → Reading → Option Operation → Option Reading
 operation_line stack due s left r None = None
 operation_line stack due s left r (Some o) = with_operation stack due s left r o
@@ -109,6 +116,7 @@ abbrev pub case_line : List LayerTree → List Due → Named → ℕ → Reading
 case_line stack due s left r line (Some next) = Some next
 case_line stack due s left r line None = operation_line stack due s left r (operation_said stack s line)
 
+-- The first line of a file is `bypasses 1`.
 abbrev pub first_line : List Due → List ℕ → Option Reading
 first_line due line =
     if bytes_eq line (codes "bypasses 1") then Some (record { stage = idle due; held = []; traces = [] }) else None

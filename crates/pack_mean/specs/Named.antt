@@ -2,21 +2,23 @@
 use Rattle.std.specs.Prelude.{ℕ, ◌+◌, nat_lt, List, [], ◌∷◌, ◌++◌, length, map, slice_index_or, bytes_eq, codes, Option}
 use Rattle.std.specs.Prelude.{Some, None, option_map, unwrap_or, if◌then◌else◌}
 use Rattle.std.specs.List.{find, position}
-use Rattle.layer_ast.specs.declared.syntax.Function.{Function}
-use Rattle.layer_ast.specs.declared.syntax.Function.TheVariants.{Not, Bit, Count, Lowest}
-use Rattle.layer_ast.specs.declared.syntax.Operator.{Operator}
-use Rattle.layer_ast.specs.declared.syntax.Operator.TheVariants.{Add, Subtract, Multiply, Equal, NotEqual, Less}
-use Rattle.layer_ast.specs.declared.syntax.Operator.TheVariants.{LessOrEqual, Greater, GreaterOrEqual, And, Or, BitAnd}
-use Rattle.layer_ast.specs.declared.syntax.Operator.TheVariants.{BitOr, BitXor}
-use Rattle.layer_ast.specs.declared.tokens.Kind.{Kind}
-use Rattle.layer_ast.specs.Printed.{function_sign, operator_sign}
-use Rattle.layer_ast.specs.Spelling.{beside, kinds}
+use Rattle.layer_words.specs.declared.operators.Function.{Function}
+use Rattle.layer_words.specs.declared.operators.Function.TheVariants.{Not, Bit, Count, Lowest}
+use Rattle.layer_words.specs.declared.operators.Operator.{Operator}
+use Rattle.layer_words.specs.declared.operators.Operator.TheVariants.{Add, Subtract, Multiply, Equal, NotEqual, Less}
+use Rattle.layer_words.specs.declared.operators.Operator.TheVariants.{LessOrEqual, Greater, GreaterOrEqual, And, Or}
+use Rattle.layer_words.specs.declared.operators.Operator.TheVariants.{BitAnd}
+use Rattle.layer_words.specs.declared.operators.Operator.TheVariants.{BitOr, BitXor}
+use Rattle.layer_words.specs.declared.events.Kind.{Kind}
+use Rattle.layer_words.specs.Signs.{function_sign, operator_sign}
+use Rattle.layer_words.specs.Spelling.{beside, kinds}
 use Rattle.script_mean.specs.Words.{◌>>=◌, number_of}
 use Rattle.layer_mean.specs.Tree.{Form, ItemsTree, LayerTree, queue, queues}
 use Rattle.trace_mean.specs.Trace.{Atom, number, peer, field, bound, taken_number, Core, body, noted, taken_message}
 use Rattle.trace_mean.specs.Trace.{nothing, Operation, bind, note, take}
 use Rattle.trace_mean.specs.Fuse.{form_at}
-use Rattle.bypass_mean.specs.Text.{layer_of, sign_text}
+use Rattle.bypass_mean.specs.Text.{layer_of}
+use Rattle.layer_words.specs.Spelling.{sign_text}
 
 -- What may be named on a line: n variable fields, numbers bound before and messages noted before, and of each row
 -- taken before what its queue's rows have.
@@ -36,9 +38,11 @@ items_in (Some (queue capacity items)) = Some items
 items_in (Some (queues capacity items)) = Some items
 items_in _ = None
 
+-- Rows with neither numbers nor a message.
 abbrev pub no_items : ItemsTree
 no_items = record { numbers = []; message = None }
 
+-- What the rows of cell c of the layer at place p have; nothing, if that is no queue.
 abbrev pub items_at : List LayerTree → ℕ → ℕ → ItemsTree
 items_at stack p c = unwrap_or (items_in (form_at (layer_of stack p) c)) no_items
 
@@ -59,13 +63,14 @@ below limit word = do
 abbrev pub place_of : List ℕ → List (List ℕ) → Option ℕ
 place_of name names = position (bytes_eq name) names
 
--- A number of a taken row, and its message where it has one.
+-- A number of a row that was taken before, by the row's number and the name that its queue gives it.
 abbrev pub row_number : Named → List ℕ → List ℕ → Option Atom
 row_number s row name = do
   r ← below (length s.rows) row
   k ← place_of name (slice_index_or s.rows r no_items).numbers
   Some (taken_number r k)
 
+-- The message of a row that was taken before, by the row's number, where its queue's rows have one.
 abbrev pub row_message : Named → List ℕ → Option Core
 row_message s row = do
   r ← below (length s.rows) row
@@ -108,17 +113,20 @@ abbrev pub kind_named : List (List ℕ) → Option Kind
 kind_named (word ∷ []) = beside kinds word
 kind_named _ = None
 
--- The function of a word, and the operator of a word or symbol.
+-- All functions of one number.
 abbrev pub functions : List Function
 functions = Not ∷ Bit ∷ Count ∷ Lowest ∷ []
 
+-- The function of a word.
 abbrev pub function_named : List (List ℕ) → Option Function
 function_named (word ∷ []) = find (λ f. bytes_eq word (sign_text (function_sign f))) functions
 function_named _ = None
 
+-- All operators between two numbers.
 abbrev pub operators : List Operator
 operators = Add ∷ Subtract ∷ Multiply ∷ Equal ∷ NotEqual ∷ Less ∷ LessOrEqual ∷ Greater ∷ GreaterOrEqual ∷ And ∷ Or ∷
     BitAnd ∷ BitOr ∷ BitXor ∷ []
 
+-- The operator of a word or symbol.
 abbrev pub operator_named : List ℕ → Option Operator
 operator_named word = find (λ o. bytes_eq word (sign_text (operator_sign o))) operators

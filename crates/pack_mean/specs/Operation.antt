@@ -2,10 +2,8 @@
 use Rattle.std.specs.Prelude.{ℕ, zero, suc, ◌+◌, ◌==◌, List, [], ◌∷◌, ◌++◌, length, map, take, replicate, bytes_eq}
 use Rattle.std.specs.Prelude.{codes, Option, Some, None, if◌then◌else◌}
 use Rattle.std.specs.Fmt.{decimal}
-use Rattle.layer_ast.specs.declared.tokens.Dir.{Dir}
-use Rattle.layer_ast.specs.declared.tokens.Dir.TheVariants.{Up, Down}
-use Rattle.layer_ast.specs.Printed.{direction_sign}
-use Rattle.layer_ast.specs.Spelling.{beside}
+use Rattle.layer_words.specs.Signs.{directions}
+use Rattle.layer_words.specs.Spelling.{beside}
 use Rattle.layer_mean.specs.Headers.{header_none}
 use Rattle.layer_mean.specs.Tree.{Carried, LayerTree}
 use Rattle.msg_core.specs.Headers.{most_fields}
@@ -13,29 +11,31 @@ use Rattle.trace_mean.specs.Trace as trace
 use Rattle.trace_mean.specs.Trace.{Atom, Core, TraceNumber, element, square, Link, Chained, Operation, bind, note}
 use Rattle.trace_mean.specs.Trace.{check, set, set_square, push, output}
 use Rattle.trace_mean.specs.Fuse.{fields_of}
-use Rattle.bypass_mean.specs.Text.{layer_of, sign_text}
+use Rattle.bypass_mean.specs.Text.{layer_of}
 use Rattle.pack_mean.specs.Reader.{Reader, ◌>>=◌, yields, option_reader, nowhere, the_text, a_name, a_word, whole}
 use Rattle.pack_mean.specs.Reader.{each_of}
 use Rattle.pack_mean.specs.Named.{Named, items_at, place_of, atom_named, core_named, kind_named}
 use Rattle.pack_mean.specs.Expression.{inside, most_brackets, a_cell, a_number, a_message, a_queue}
 
--- A number, and a message, for which no cell is read.
+-- A number for which no cell is read.
 abbrev pub an_atom : Named → Reader Atom
 an_atom s = do
   name ← a_name
   option_reader (atom_named s name)
 
+-- A message for which no cell is read, without its known headers.
 abbrev pub a_core : Named → Reader Core
 a_core s = do
   name ← a_name
   option_reader (core_named s name)
 
--- A known header of the layer at a place: LAYER.HEADER(F,F), with as many fields as it has.
+-- The tag of a header of a layer, by the words LAYER.HEADER; 0 is that of `none`.
 abbrev pub tag_named : LayerTree → List (List ℕ) → Option ℕ
 tag_named layer (name ∷ header ∷ []) =
     if bytes_eq name layer.name then place_of header (map (λ h. h.name) (header_none ∷ layer.headers)) else None
 tag_named layer _ = None
 
+-- A known header of the layer at a place: LAYER.HEADER(F,F), with as many fields as it has.
 abbrev pub a_link : List LayerTree → Named → ℕ → Reader Link
 a_link stack s place = do
   name ← a_name
@@ -57,6 +57,7 @@ links_after stack s place (suc left) (byte ∷ bytes) =
       yields (first ∷ more)) bytes
     else Some ([], byte ∷ bytes)
 
+-- Known headers, at least one, of the layers at this place and those above it.
 abbrev pub some_links : List LayerTree → Named → ℕ → Reader (List Link)
 some_links stack s place = do
   first ← a_link stack s place
@@ -75,12 +76,13 @@ a_chained stack s place = do
   chain ← a_chain stack s place
   yields (record { chain = chain; core = c })
 
--- The message of a row to be pushed, where its queue's rows have one: it stands after the row's numbers, and after a
--- comma where there are any.
+-- A comma, if a row has numbers before its message.
 abbrev pub comma_after : List (List ℕ) → Reader (Unit {0})
 comma_after [] = yields tt
 comma_after (name ∷ names) = the_text (codes ",")
 
+-- The message of a row to be pushed, where its queue's rows have one: it stands after the row's numbers, and after a
+-- comma where there are any.
 abbrev pub row_message : List LayerTree → Named → ℕ → List (List ℕ) → Option (List ℕ × Carried) →
     Reader (Option Chained)
 row_message stack s place names None = yields None
@@ -94,12 +96,15 @@ pub record Sent : Type 0 where
   pub numbers : List Atom
   pub message : Option Core
 
+-- An output with neither numbers nor a message.
 abbrev pub nothing_sent : Sent
 nothing_sent = record { numbers = []; message = None }
 
+-- An output with one number more, in front of the others.
 abbrev pub with_number : Atom → Sent → Sent
 with_number a sent = record sent { numbers = a ∷ sent.numbers }
 
+-- A name that is an output's message, with nothing after it.
 abbrev pub a_last : Named → List (List ℕ) → Reader Sent
 a_last s name = do
   c ← option_reader (core_named s name)
@@ -126,6 +131,7 @@ sent_within s (suc left) = do
   name ← a_name
   sent_by s (sent_within s left) name (atom_named s name)
 
+-- What stands before the closing bracket of an output: nothing, or numbers and a message.
 abbrev pub what_is_sent : Named → Reader Sent
 what_is_sent s text = if bytes_eq (take 1 text) (codes ")") then Some (nothing_sent, text) else sent_within
     s most_fields text
@@ -137,35 +143,34 @@ chained_after stack s (Some c) = do
   chain ← a_chain stack s 0
   yields (Some (record { chain = chain; core = c }))
 
--- Directions by their words.
-abbrev pub directions : List (List ℕ × Dir)
-directions = (sign_text (direction_sign Up), Up) ∷ (sign_text (direction_sign Down), Down) ∷ []
-
 -- What is set, after its text: a number of a cell.
 abbrev pub setting : TraceNumber → TraceNumber → Option Operation
 setting (element p c e) x = Some (set p c e x)
 setting (square p c row column) x = Some (set_square p c row column x)
 setting _ x = None
 
--- Each kind of operation, after its word.
+-- A bind, after its word: `t.K = NUMBER`, where K numbers were bound before.
 abbrev pub a_bind : List LayerTree → Named → Reader Operation
 a_bind stack s = do
   _ ← the_text (codes " t." ++ decimal s.binds ++ codes " = ")
   e ← a_number stack s
   yields (bind e)
 
+-- A note, after its word: `m.K = MESSAGE`, where K messages were noted before.
 abbrev pub a_note : List LayerTree → Named → Reader Operation
 a_note stack s = do
   _ ← the_text (codes " m." ++ decimal s.notes ++ codes " = ")
   m ← a_message stack s
   yields (note m)
 
+-- A check, after its word: `NUMBER`.
 abbrev pub a_check : List LayerTree → Named → Reader Operation
 a_check stack s = do
   _ ← the_text (codes " ")
   e ← a_number stack s
   yields (check e)
 
+-- A set of a number of a cell, after its word: `CELL = NUMBER`.
 abbrev pub a_set : List LayerTree → Named → Reader Operation
 a_set stack s = do
   _ ← the_text (codes " ")
@@ -175,6 +180,8 @@ a_set stack s = do
   x ← a_number stack s
   option_reader (setting target x)
 
+-- A push, after its word: `QUEUE (N,N,MESSAGE)`, with the numbers that the queue's rows have, and a message if they
+-- have one.
 abbrev pub a_push : List LayerTree → Named → Reader Operation
 a_push stack s = do
   _ ← the_text (codes " ")
@@ -186,6 +193,7 @@ a_push stack s = do
   _ ← the_text (codes ")")
   yields (push q.place q.cell q.index numbers message)
 
+-- A take, after its word: `QUEUE row.K`, where K rows were taken before.
 abbrev pub a_take : List LayerTree → Named → Reader Operation
 a_take stack s = do
   _ ← the_text (codes " ")
@@ -193,6 +201,7 @@ a_take stack s = do
   _ ← the_text (codes " row." ++ decimal (length s.rows))
   yields (trace.take q.place q.cell q.index)
 
+-- An output, after its word: `DIRECTION KIND(N,N,MESSAGE)`, and after that the known headers of its message.
 abbrev pub an_output : List LayerTree → Named → Reader Operation
 an_output stack s = do
   _ ← the_text (codes " ")
@@ -207,7 +216,7 @@ an_output stack s = do
   message ← chained_after stack s sent.message
   yields (output dir kind sent.numbers message)
 
--- An operation, by its first word; and the one that a whole line spells.
+-- An operation whose first word is this, after the word.
 abbrev pub operation_by : List LayerTree → Named → List ℕ → Reader Operation
 operation_by stack s word =
     if bytes_eq word (codes "bind") then a_bind stack s
@@ -219,5 +228,6 @@ operation_by stack s word =
     else if bytes_eq word (codes "out") then an_output stack s
     else nowhere
 
+-- The operation that a whole line spells, if it spells one.
 abbrev pub operation_said : List LayerTree → Named → List ℕ → Option Operation
 operation_said stack s = whole (a_word >>= operation_by stack s)

@@ -2,7 +2,7 @@
 use Rattle.std.specs.Prelude.{ℕ, ◌==◌, ◌||◌, Bool, not, List, ◌∷◌, [], length, take, drop, bytes_eq, codes, Option}
 use Rattle.std.specs.Prelude.{Some, None, option_and_then, option_map, if◌then◌else◌}
 use Rattle.std.specs.List.{position_or_len, slice_split}
-use Rattle.layer_ast.specs.Spelling.{is_word_byte}
+use Rattle.layer_words.specs.Spelling.{is_word_byte}
 
 -- A reader takes bytes from the front: what they spell and the bytes after them, or nothing where they don't fit.
 abbrev pub Reader : Type 0 → Type 0
@@ -34,10 +34,11 @@ the_text wanted text = if bytes_eq (take (length wanted) text) wanted then Some 
 abbrev pub run_of : (ℕ → Bool) → Reader (List ℕ)
 run_of such text = let n = position_or_len (λ byte. not (such byte)) text in Some (take n text, drop n text)
 
--- A name: words with points (46) between, by its words.
+-- A byte of a name: one of a word, or a point (46).
 abbrev pub is_name_byte : ℕ → Bool
 is_name_byte byte = is_word_byte byte || byte == 46
 
+-- A name: words with points (46) between, by its words.
 abbrev pub a_name : Reader (List (List ℕ))
 a_name = do
   name ← run_of is_name_byte
@@ -47,11 +48,12 @@ a_name = do
 abbrev pub a_word : Reader (List ℕ)
 a_word = run_of (λ byte. not (byte == 32))
 
--- What a whole text spells, with nothing after it.
+-- What was read, if no byte is left after it.
 abbrev pub nothing_after : {A : Type 0} → A × List ℕ → Option A
 nothing_after (value, []) = Some value
 nothing_after (value, byte ∷ bytes) = None
 
+-- What a whole text spells, with nothing after it.
 abbrev pub whole : {A : Type 0} → Reader A → List ℕ → Option A
 whole read text = option_and_then nothing_after (read text)
 

@@ -120,7 +120,7 @@ module _ (stack : List LayerTree) (place at : ℕ) (headers : List Header) (whol
   abbrev So : (bytes : List ℕ) → Type 0
   So bytes = with_front (take (at - place) headers) (chain (drop at stack) at bytes) ≡ whole
 
-  -- the same bytes
+  -- bytes that are equal to such bytes are such bytes
   pub still : (bytes old : List ℕ) → bytes ≡ old → So old → So bytes
   still bytes old is so_far = subst So (sym is) so_far
 

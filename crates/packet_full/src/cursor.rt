@@ -1,7 +1,7 @@
 //! The bytes of a datagram, taken from the front.
 
 ghost use Rattle.std.specs.Prelude.{◌≡◌, ◌+◌, ◌<◌, ◌≤◌, [], IfSome, drop, length, option_map, slice_index_or};
-ghost use Rattle.event_graph.specs.Answer.{stack_tree};
+ghost use Rattle.stack_judge.specs.Answer.{stack_tree};
 ghost use Rattle.layer_mean.specs.Tree.{no_layer};
 ghost use Rattle.msg_core.specs.Headers.{most_fields};
 ghost use Rattle.packet_mean.specs.Reading as reading;
@@ -10,11 +10,11 @@ ghost use Rattle.packet_full.specs.Taking.{Takes, left, preamble_tree};
 
 use crate::form::form_at;
 use crate::front::{PREAMBLE_BYTES, Preamble, dest_of};
-use event_graph::Stack;
 use msg_core::{Fields, Header, Headers};
+use stack_judge::Stack;
 
 /// The most numbers that a header carries.
-const MOST_FIELDS: u8 = 4;
+const MOST_FIELDS: u8 = msg_core::MOST_FIELDS as u8;
 
 /// The bytes that are left of a datagram.
 #[derive(Clone, Copy)]
@@ -23,7 +23,8 @@ pub struct Cursor<'a> {
 }
 
 impl<'a> Cursor<'a> {
-    pub fn on(bytes: &'a [u8]) -> Cursor<'a>
+    /// Before these bytes, of which all are left.
+    pub fn new(bytes: &'a [u8]) -> Cursor<'a>
         ensures { left result ≡ bytes.now }
     {
         Cursor { bytes }
@@ -36,6 +37,7 @@ impl<'a> Cursor<'a> {
         self.bytes.len()
     }
 
+    /// One byte, if one is left.
     pub fn byte(&mut self) -> Option<u8>
         ensures { Takes (reading.byte (left self.old)) result (left self.new) }
     {
@@ -59,7 +61,7 @@ impl<'a> Cursor<'a> {
         ensures { Takes (reading.numbers count (left self.old)) result (left self.new) }
     {
         let mut cursor = *self;
-        let mut fields = Fields::none();
+        let mut fields = Fields::new();
         for place in 0..MOST_FIELDS {
             if place == count {
                 *self = cursor;
@@ -81,7 +83,7 @@ impl<'a> Cursor<'a> {
             return None;
         }
         let mut cursor = *self;
-        let mut front = Preamble::none();
+        let mut front = Preamble::new();
         front.form = cursor.byte()?;
         front.group = cursor.number()?;
         front.stamp = cursor.number()?;
@@ -136,7 +138,7 @@ impl<'a> Cursor<'a> {
             (option_map (λ _. headers.new) result) (left self.new) }
         ensures few { IfSome result (λ _. length headers.new + place ≤ length (stack_tree stack.now)) }
     {
-        stack.is_within_limits();
+        stack.law_within_limits();
         let places = stack.places();
         let mut cursor = *self;
         headers.stretch(places - place);
@@ -167,6 +169,6 @@ fn none_of(place: u8) -> Header
     Header {
         layer: place,
         tag: 0,
-        fields: Fields::none(),
+        fields: Fields::new(),
     }
 }

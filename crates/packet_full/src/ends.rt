@@ -25,7 +25,7 @@ pub fn open<'a>(here: &Here, bytes: &'a [u8]) -> Result<Opened<'a>, Stray>
     ensures form { IfOk result (λ o. ((o.front.form == full_form) || (o.front.form == short_form)) ≡ true) }
     ensures own { IfOk result (λ o. IsOwn here.now o.front) }
 {
-    let mut cursor = Cursor::on(bytes);
+    let mut cursor = Cursor::new(bytes);
     let Some(front) = cursor.preamble() else {
         return Err(Stray::Short)
     };

@@ -1,14 +1,14 @@
 //! One header that a layer declares, as it is read.
 
 ghost use Rattle.std.specs.Prelude.{◌≡◌, ◌<◌, ◌≤◌, IfSome, length, option_map, slice_index_or};
-ghost use Rattle.event_graph.specs.Answer.{stack_tree};
+ghost use Rattle.stack_judge.specs.Answer.{stack_tree};
 ghost use Rattle.layer_mean.specs.Headers.{header_of_tag};
 ghost use Rattle.layer_mean.specs.Tree.{no_layer};
 ghost use Rattle.typed_layer.specs.View.{layer_tree};
 ghost use Rattle.packet_full.specs.Form.{form_of};
 ghost use Rattle.msg_core.specs.Headers.{most_fields};
 
-use event_graph::Stack;
+use stack_judge::Stack;
 use typed_layer::TypedLayer;
 
 /// How many numbers a header has, and whether it closes the chain.

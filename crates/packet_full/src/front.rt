@@ -1,7 +1,7 @@
 //! The preamble of a datagram, and whether it is meant for a member.
 
-ghost use Rattle.std.specs.Prelude.{◌≡◌, ◌==◌, ◌&&◌, ◌||◌, ◌≤◌, true, not, nat_lt, IfOk};
-ghost use Rattle.msg_core.specs.View.{member_count as members_of, most_members};
+ghost use Rattle.std.specs.Prelude.{◌≡◌, ◌==◌, ◌&&◌, ◌||◌, true, not, nat_lt, IfOk};
+ghost use Rattle.msg_core.specs.View.{member_count as members_of};
 ghost use Rattle.msg_core.specs.declared.packet.Dest.TheVariants as to;
 ghost use Rattle.packet_mean.specs.Reading as reading;
 ghost use Rattle.packet_mean.specs.Received as received;
@@ -10,6 +10,7 @@ ghost use Rattle.packet_full.specs.Taking.{IsOwn, preamble_tree};
 
 use msg_core::{Dest, Stray, View};
 use packet_mean::Here;
+use view_masks::member_count;
 
 /// The first byte of a full spelling.
 pub const FULL_FORM: u8 = 0xE5;
@@ -36,7 +37,7 @@ pub struct Preamble {
 
 impl Preamble {
     /// A preamble that nothing was read into: numbers of 0, to all.
-    pub(crate) fn none() -> Preamble
+    pub(crate) fn new() -> Preamble
         ensures { result ≡ record {
           form = 0;
           group = 0;
@@ -73,14 +74,6 @@ pub(crate) fn is_form(byte: u8) -> bool
     ensures { result ≡ (byte == full_form) || (byte == short_form) }
 {
     byte == FULL_FORM || byte == SHORT_FORM
-}
-
-/// How many members a view has.
-pub fn member_count(view: View) -> u32
-    ensures count { result ≡ members_of view }
-    ensures few { result ≤ most_members }
-{
-    view.mask.count_ones()
 }
 
 /// Whether a packet to a destination is for a rank.

@@ -14,7 +14,7 @@ mod write;
 pub use cursor::Cursor;
 pub use ends::{close, open};
 pub use form::{Form, form_at};
-pub use front::{FULL_FORM, Preamble, SHORT_FORM, member_count};
+pub use front::{FULL_FORM, Preamble, SHORT_FORM};
 pub use laws::{read_in_steps, written_is_read};
 pub use opened::Opened;
 pub use scan::Scan;

@@ -17,13 +17,13 @@ pub struct Scan {
 
 impl Scan {
     /// A scan that nothing was read into: no headers and no body, from rank 0 to all.
-    pub fn none() -> Scan
+    pub fn new() -> Scan
         ensures { result ≡ record { sender = 0; dest = to.All; headers = []; body = 0 } }
     {
         Scan {
             sender: 0,
             dest: Dest::All,
-            headers: Headers::none(),
+            headers: Headers::new(),
             body: 0,
         }
     }

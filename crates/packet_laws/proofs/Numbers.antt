@@ -14,7 +14,8 @@ pub through : {A B C : Type 0} (f : A → Option B) (o : Option A) (y : B) → o
 through f None y h k = absurd (cc h)
 through f (Some x) y h k = k x refl h
 
--- the same where the first step is a value that was there before
+-- where a step after a value that takes no bytes gave something, there was a value, and the step then gave this on all
+-- the bytes
 pub through_known : {A B C : Type 0} (f : A × List ℕ → Option B) (o : Option A) (bytes : List ℕ) (y : B) →
     option_and_then f (option_reader o bytes) ≡ Some y → ((x : A) → o ≡ Some x → f (x, bytes) ≡ Some y → C) → C
 through_known f None bytes y h k = absurd (cc h)

@@ -9,7 +9,7 @@ use denote.Enum.Bare.{sameb}
 use Rattle.msg_core.specs.Parts.{longest_body}
 use Rattle.msg_core.specs.declared.message.Header.{Header}
 use Rattle.msg_core.specs.declared.packet.Packet.{Packet}
-use Rattle.layer_ast.specs.contracts.tokens.Kind as kind_row
+use Rattle.layer_words.specs.contracts.events.Kind as kind_row
 use Rattle.layer_mean.specs.Tree.{LayerTree}
 use Rattle.packet_mean.specs.Chained.{IsChain}
 use Rattle.packet_mean.specs.Plan.{kind_of, agree, variable, variable_fields, fits}

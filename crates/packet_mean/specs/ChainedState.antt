@@ -7,8 +7,8 @@ use Rattle.msg_core.specs.Chain.{Content}
 use Rattle.msg_core.specs.Parts.{longest_body}
 use Rattle.msg_core.specs.View.{most_members}
 use Rattle.msg_core.specs.declared.message.Header.{Header}
-use Rattle.layer_ast.specs.declared.tokens.Dir.{Dir}
-use Rattle.layer_ast.specs.declared.tokens.Dir.TheVariants.{Up, Down}
+use Rattle.layer_words.specs.declared.events.Dir.{Dir}
+use Rattle.layer_words.specs.declared.events.Dir.TheVariants.{Up, Down}
 use Rattle.layer_mean.specs.declared.run.Event.{Event}
 use Rattle.layer_mean.specs.declared.run.Row.{Row}
 use Rattle.layer_mean.specs.Event.{carries}
@@ -18,10 +18,11 @@ use Rattle.layer_mean.specs.State as state
 use Rattle.layer_mean.specs.State.{State, Contents, size_of}
 use Rattle.packet_mean.specs.Chained.{IsChain}
 
--- A number, and numbers: below 2^32.
+-- A number is below 2^32.
 abbrev pub IsNumber : ℕ → Type 0
 IsNumber n = n < 2 ^ 32
 
+-- Each number of a list is below 2^32.
 abbrev pub Numbers : List ℕ → Type 0
 Numbers ns = AllByRecursion IsNumber ns
 

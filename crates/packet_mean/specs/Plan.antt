@@ -7,9 +7,9 @@ use Rattle.msg_core.specs.Chain.{Content}
 use Rattle.msg_core.specs.declared.packet.Dest.{Dest}
 use Rattle.msg_core.specs.declared.packet.Dest.TheVariants as dest
 use Rattle.msg_core.specs.declared.packet.Packet.{Packet}
-use Rattle.layer_ast.specs.contracts.tokens.Kind as kind_row
-use Rattle.layer_ast.specs.declared.tokens.Kind.{Kind}
-use Rattle.layer_ast.specs.declared.tokens.Kind.TheVariants.{Cast, Send}
+use Rattle.layer_words.specs.contracts.events.Kind as kind_row
+use Rattle.layer_words.specs.declared.events.Kind.{Kind}
+use Rattle.layer_words.specs.declared.events.Kind.TheVariants.{Cast, Send}
 use Rattle.stack_mean.specs.Plan.{Plan}
 
 -- The kind of a packet, by its destination: to all it is a Cast, to a rank a Send.
@@ -17,10 +17,11 @@ abbrev pub kind_of : Dest → Kind
 kind_of dest.All = Cast
 kind_of (dest.Rank rank) = Send
 
--- The tags of a message's headers, and their fields, all in a row, from the lowest layer up.
+-- The tags of a message's headers, from the lowest layer up.
 abbrev pub tags_of : Content → List ℕ
 tags_of message = map (λ h. h.tag) message.headers
 
+-- The fields of a message's headers, all in a row, from the lowest layer up.
 abbrev pub fields_of : Content → List ℕ
 fields_of message = flat_map (λ h. h.fields) message.headers
 

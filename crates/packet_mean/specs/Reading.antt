@@ -8,7 +8,7 @@ use Rattle.msg_core.specs.declared.packet.Dest.{Dest}
 use Rattle.msg_core.specs.declared.packet.Dest.TheVariants.{All, Rank}
 use Rattle.msg_core.specs.declared.packet.Packet.{Packet}
 use Rattle.msg_core.specs.declared.packet.View.{View}
-use Rattle.layer_ast.specs.contracts.tokens.Kind as kind_row
+use Rattle.layer_words.specs.contracts.events.Kind as kind_row
 use Rattle.layer_mean.specs.Tree.{LayerTree}
 use Rattle.layer_mean.specs.Headers.{header_of_tag}
 use Rattle.packet_mean.specs.Plan.{kind_of}
@@ -28,7 +28,7 @@ abbrev pub ◌>>=◌ : {A B : Type 0} → Reader A → (A → Reader B) → Read
 abbrev pub value_reader : {A : Type 0} → A → Reader A
 value_reader x bytes = Some (x, bytes)
 
--- The same, if there is a value.
+-- Nothing is taken off, and the value is what was read; where there is none, reading fails.
 abbrev pub option_reader : {A : Type 0} → Option A → Reader A
 option_reader None bytes = None
 option_reader (Some x) bytes = Some (x, bytes)

@@ -17,6 +17,7 @@ use Rattle.packet_mean.specs.Spelling.{full_form, short_form}
 use Rattle.packet_mean.specs.Reading.{Preamble, preamble, named_plan, headers}
 use Rattle.packet_mean.specs.declared.here.Here.{Here}
 
+-- Whether two views are the same: the count of views before them, and the mask of their members' ids.
 abbrev pub same_view : View → View → Bool
 same_view v w = (v.ltime == w.ltime) && (v.mask == w.mask)
 

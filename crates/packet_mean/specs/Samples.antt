@@ -5,19 +5,21 @@ use Rattle.msg_core.specs.declared.packet.Dest.{Dest}
 use Rattle.msg_core.specs.declared.packet.Dest.TheVariants.{All, Rank}
 use Rattle.msg_core.specs.declared.packet.Packet.{Packet}
 use Rattle.msg_core.specs.declared.packet.Stray.{Stray}
-use Rattle.layer_ast.specs.declared.tokens.Kind.TheVariants.{Cast, Send}
+use Rattle.layer_words.specs.declared.events.Kind.TheVariants.{Cast, Send}
 use Rattle.layer_mean.specs.Tree.{HeaderTree, LayerTree}
 use Rattle.stack_mean.specs.Plan.{Plan}
 use Rattle.packet_mean.specs.Received.{stray}
 use Rattle.packet_mean.specs.declared.here.Here.{Here}
 
--- A header that passes and one that ends, and a layer that declares headers alone.
+-- A header of this name, with so many fields, after which those of the layers above follow.
 abbrev pub passing : List ℕ → ℕ → HeaderTree
 passing name fields = record { name = name; fields = fields; ends = false }
 
+-- A header of this name, with so many fields, that ends the chain.
 abbrev pub ending : List ℕ → ℕ → HeaderTree
 ending name fields = record { name = name; fields = fields; ends = true }
 
+-- A layer that declares these headers alone.
 abbrev pub layer : List ℕ → List HeaderTree → LayerTree
 layer name headers = record { name = name; cells = []; headers = headers; handlers = [] }
 
@@ -50,20 +52,23 @@ packet stamp mask dest headers body = record {
   message = record { headers = headers_from 0 headers; body = body };
 }
 
--- A cast of the ordered stack, with its plan; a request of its second layer, whose header ends the chain.
+-- A cast of `a` over the ordering stack, from rank 0 of two.
 abbrev pub ordered_cast : Packet
 ordered_cast = packet 1 3 All ((1, 1 ∷ []) ∷ (1, 0 ∷ []) ∷ (0, []) ∷ (1, 0 ∷ 0 ∷ []) ∷ []) (codes "a")
 
+-- The plan of a cast over the ordering stack: the lowest layer's field is constant, the other three vary.
 abbrev pub ordered_plan : Plan
 ordered_plan = record { kind = Cast; tags = 1 ∷ 1 ∷ 0 ∷ 1 ∷ []; fields = Some 1 ∷ None ∷ None ∷ None ∷ [] }
 
+-- A request of the second layer to rank 1; its header ends the chain, and it has no body.
 abbrev pub ordered_request : Packet
 ordered_request = packet 1 3 (Rank 1) ((1, 1 ∷ []) ∷ (2, 0 ∷ 7 ∷ []) ∷ []) []
 
--- A cast of the counter layer, its plan, and one of a Send.
+-- A cast of `hi` over the counter layer, from rank 0 of three.
 abbrev pub counter_cast : Packet
 counter_cast = packet 7 7 All ((1, 0 ∷ []) ∷ []) (codes "hi")
 
+-- The plans of the counter layer: a cast's, whose one field varies, and a send's.
 abbrev pub counter_plans : List Plan
 counter_plans =
     record { kind = Cast; tags = 1 ∷ []; fields = None ∷ [] } ∷

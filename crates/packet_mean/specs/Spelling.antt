@@ -11,13 +11,15 @@ use Rattle.packet_mean.specs.Chained.{IsChained}
 use Rattle.packet_mean.specs.Plan.{fits, variable_fields}
 use Rattle.stack_mean.specs.Plan.{Plan}
 
--- The first byte of a full spelling, of a short one, and the byte that stands for all members in place of a rank.
+-- The first byte of a full spelling.
 abbrev pub full_form : ℕ
 full_form = 0xE5
 
+-- The first byte of a short spelling.
 abbrev pub short_form : ℕ
 short_form = 0xE6
 
+-- The byte that stands for all members in the place of the rank that a packet is for.
 abbrev pub everyone : ℕ
 everyone = 0xFF
 
@@ -25,9 +27,11 @@ everyone = 0xFF
 abbrev pub number_bytes : ℕ → List ℕ
 number_bytes n = to_be_bytes w32 n
 
+-- A view is eight bytes: its ltime, and the mask of its members' ids.
 abbrev pub view_bytes : View → List ℕ
 view_bytes view = number_bytes view.ltime ++ number_bytes view.mask
 
+-- A destination is one byte: that for all members, or a rank.
 abbrev pub dest_byte : Dest → ℕ
 dest_byte to_all = everyone
 dest_byte (Rank rank) = rank
@@ -51,10 +55,11 @@ abbrev pub short_bytes : (k : ℕ) → Plan → Packet → List ℕ
 short_bytes k plan packet = preamble_bytes short_form packet ++ k ∷ flat_map number_bytes (variable_fields plan packet)
     ++ packet.message.body
 
--- Numbers below 2^32, and bytes.
+-- Each is below 2^32.
 abbrev pub AreNumbers : List ℕ → Type 0
 AreNumbers numbers = All (λ n. n < 2 ^ 32) numbers
 
+-- Each is below 256.
 abbrev pub AreBytes : List ℕ → Type 0
 AreBytes bytes = All (λ b. b < 256) bytes
 

@@ -1,6 +1,6 @@
 //! Small packets and datagrams, worked out by evaluation. Nothing runs here.
 ghost use Rattle.std.specs.Prelude.{◌≡◌, ℕ, true, false, List, [], ◌∷◌, ◌++◌, map, replicate, codes, Some, None, Ok};
-ghost use Rattle.layer_ast.specs.declared.tokens.Kind.TheVariants.{Cast, Send};
+ghost use Rattle.layer_words.specs.declared.events.Kind.TheVariants.{Cast, Send};
 ghost use Rattle.msg_core.specs.declared.packet.Stray.TheVariants as cause;
 ghost use Rattle.packet_mean.specs.Chained.{IsChained};
 ghost use Rattle.packet_mean.specs.Plan.{fits, least_fit};

@@ -7,8 +7,8 @@ use Rattle.std.proofs.lemmas.Slice.Eq.{bytes_eq-Decides}
 use denote.Enum.Bare.{true_same}
 use Rattle.msg_core.specs.declared.message.Header.{Header}
 use Rattle.msg_core.specs.declared.packet.Dest.{Dest}
-use Rattle.layer_ast.specs.contracts.tokens.Kind as kind_row
-use Rattle.layer_ast.specs.declared.tokens.Kind.{Kind}
+use Rattle.layer_words.specs.contracts.events.Kind as kind_row
+use Rattle.layer_words.specs.declared.events.Kind.{Kind}
 use Rattle.layer_mean.specs.Tree.{LayerTree}
 use Rattle.packet_laws.proofs.Numbers.{same_read}
 use Rattle.packet_mean.specs.Plan.{agree, kind_of, variable}

@@ -51,7 +51,7 @@ pub kept_of : (plans : List Plan) (k : ℕ) (plan : Plan) (fits : Bool) (fields 
 kept_of plans k plan fits fields kept below is so keeps =
     kept_at plans k plan fields kept below is (subst (λ b. KeepsIf b (variable plan.fields fields) kept) so keeps)
 
--- the same of the first plan
+-- what was kept where headers fit the first plan is what that plan leaves variable
 pub kept_first : (plans : List Plan) (plan : Plan) (fits : Bool) (fields kept : List ℕ) →
     Some plan ≡ slice_get plans 0 →
     KeepsIf fits (variable plan.fields fields) kept → KeepsIf fits (kept_by plans (Some 0) fields) kept

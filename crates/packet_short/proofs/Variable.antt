@@ -19,7 +19,8 @@ none_variable [] = refl
 none_variable (Some c ∷ planned) = refl
 none_variable (None ∷ planned) = refl
 
--- the same of the fields themselves
+-- the fields that are to be put after some numbers are those that are still to be put after others, whatever comes
+-- after
 abbrev pub KeepsOn : (planned : List (Option ℕ)) (numbers : List ℕ) (planned' : List (Option ℕ)) (numbers' : List ℕ)
     (old new : List ℕ) → Type 0
 KeepsOn planned numbers planned' numbers' old new = (more : List ℕ) → old ++ variable planned (numbers ++ more) ≡ new ++

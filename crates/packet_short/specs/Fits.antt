@@ -3,8 +3,8 @@ use Rattle.std.specs.Prelude.{ℕ, ◌==◌, ◌&&◌, Bool, false, bytes_eq, if
 use Rattle.std.specs.Prelude.{Some, None}
 use denote.Enum.Bare.{sameb}
 use Rattle.msg_core.specs.declared.message.Header.{Header}
-use Rattle.layer_ast.specs.contracts.tokens.Kind as kind_row
-use Rattle.layer_ast.specs.declared.tokens.Kind.{Kind}
+use Rattle.layer_words.specs.contracts.events.Kind as kind_row
+use Rattle.layer_words.specs.declared.events.Kind.{Kind}
 use Rattle.packet_mean.specs.Plan.{agree}
 use Rattle.stack_mean.specs.Plan.{Plan}
 

@@ -1,7 +1,7 @@
 -- What it means that the plans of a stack are laid out.
 use Rattle.std.specs.Prelude.{◌≡◌, ℕ, true, List, [], map, flat_map, length, slice_get, position, Option, Some}
 use Rattle.std.specs.Prelude.{None}
-use Rattle.layer_ast.specs.declared.tokens.Kind.{Kind}
+use Rattle.layer_words.specs.declared.events.Kind.{Kind}
 use Rattle.layer_mean.specs.Tree.{LayerTree}
 use Rattle.msg_core.specs.declared.message.Header.{Header}
 use Rattle.msg_core.specs.declared.packet.Dest.{Dest}

@@ -11,7 +11,8 @@ use Rattle.packet_full.specs.Room.{room_needed}
 abbrev pub short_under : Plan → (k : ℕ) → Packet → Option (List ℕ)
 short_under plan k packet = if fits plan packet then Some (short_bytes k plan packet) else None
 
--- The same under the plan of a number; nothing also where there is no such plan.
+-- A packet's short form under the plan of a number; nothing where the packet doesn't fit it, or where there is no such
+-- plan.
 abbrev pub shortened : List Plan → (k : ℕ) → Packet → Option (List ℕ)
 shortened plans k packet = option_and_then (λ plan. short_under plan k packet) (slice_get plans k)
 
@@ -25,7 +26,7 @@ abbrev pub PutsVariable : (planned : List (Option ℕ)) (fields : List ℕ) (res
 PutsVariable planned fields rest old new = (more : List ℕ) →
     old ++ flat_map number_bytes (variable planned (fields ++ more)) ≡ new ++ flat_map number_bytes (variable rest more)
 
--- The same where the fields themselves were put after numbers.
+-- A header's variable fields were put after numbers, and this is what is planned after them.
 abbrev pub KeepsVariable : (planned : List (Option ℕ)) (fields : List ℕ) (rest : List (Option ℕ)) (old new : List ℕ) →
     Type 0
 KeepsVariable planned fields rest old new = (more : List ℕ) → old ++ variable planned (fields ++ more) ≡ new ++

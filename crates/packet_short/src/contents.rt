@@ -2,7 +2,7 @@
 
 ghost use Rattle.std.specs.Prelude.{◌≡◌, IfOk, IfSome, Some, option_map, slice_get, vec_capacity};
 ghost use Rattle.std.specs.List.{AllByRecursion};
-ghost use Rattle.event_graph.specs.Answer.{stack_tree};
+ghost use Rattle.stack_judge.specs.Answer.{stack_tree};
 ghost use Rattle.packet_full.specs.Steps as steps;
 ghost use Rattle.packet_full.specs.Taking.{Takes, left, preamble_tree};
 ghost use Rattle.packet_mean.specs.Plan as mean;
@@ -16,9 +16,9 @@ use crate::fit::kind_of;
 use crate::known::Known;
 use crate::layout::Layout;
 use crate::planned::Planned;
-use event_graph::Stack;
 use msg_core::{Dest, Headers, Stray};
 use packet_full::{Cursor, FULL_FORM, Preamble};
+use stack_judge::Stack;
 use stack_shapes::{Plan, Plans};
 
 /// The plan that a short datagram names, and its number, if it is one of its destination's kind.

@@ -16,7 +16,7 @@ ghost use Rattle.packet_short.specs.Keeping.{HasAtMost, KeepsIf, kept_by};
 ghost use Rattle.packet_mean.specs.Plan.{variable};
 
 use crate::agreement::is_alike;
-use layer_ast::Kind;
+use layer_words::Kind;
 use msg_core::{Dest, Headers};
 use packet_full::Scan;
 use stack_shapes::{Plan, Plans, Print};

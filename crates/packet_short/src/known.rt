@@ -1,7 +1,7 @@
 //! What datagrams are read by.
 
 use crate::layouts::Layouts;
-use event_graph::Stack;
+use stack_judge::Stack;
 use stack_shapes::Plans;
 
 /// What is known beforehand of the datagrams of a stack: the stack, its plans, and these laid out.

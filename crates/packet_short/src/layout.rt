@@ -44,7 +44,7 @@ impl Loose {
         ensures len { IfSome result (λ _. vec_len into.new ≤ vec_len into.old + length self.now.own.items) }
         ensures capacity { vec_capacity into.new ≡ vec_capacity into.old }
     {
-        let mut own = Fields::none();
+        let mut own = Fields::new();
         for planned in self.own.as_slice() {
             match planned {
                 Some(constant) => own.push(*constant),

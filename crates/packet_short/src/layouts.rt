@@ -1,7 +1,7 @@
 //! The plans of a stack, laid out.
 
 ghost use Rattle.std.specs.Prelude.{◌≡◌, List, IfOk, IfSome, true};
-ghost use Rattle.event_graph.specs.Answer.{stack_tree};
+ghost use Rattle.stack_judge.specs.Answer.{stack_tree};
 ghost use Rattle.layer_mean.specs.Tree.{LayerTree};
 ghost use Rattle.stack_mean.specs.Plan as mean;
 ghost use Rattle.stack_shapes.specs.Trees.{plans_tree};
@@ -10,10 +10,10 @@ ghost use Rattle.packet_short.specs.Layouts.{AreLaidOut, IsFirst, IsLaidOut};
 use crate::fit::print_of;
 use crate::layout::{Layout, loose_of};
 use crate::planned::Planned;
-use event_graph::Stack;
-use layer_ast::Kind;
+use layer_words::Kind;
 use msg_core::{Headers, Memory};
 use packet_full::Cursor;
+use stack_judge::Stack;
 use stack_shapes::Plans;
 use std::alloc::Global;
 
@@ -48,9 +48,9 @@ impl Layout {
             return Ok(None)
         };
         let zeros = vec![in alloc; 0; plan.fields.len().saturating_mul(NUMBER_BYTES)]?;
-        let mut cursor = Cursor::on(zeros.as_slice());
+        let mut cursor = Cursor::new(zeros.as_slice());
         let mut planned = Planned::of(plan);
-        let mut headers = Headers::none();
+        let mut headers = Headers::new();
         let Some(()) = planned.chain(&mut cursor, stack, 0, &mut headers) else {
             return Ok(None)
         };
@@ -68,7 +68,7 @@ impl Layout {
 
 impl Layouts {
     /// No plan is laid out.
-    pub fn none(alloc: Global) -> Layouts
+    pub fn new(alloc: Global) -> Layouts
         ensures { (stack : List LayerTree) (plans : List mean.Plan) → AreLaidOut stack plans result }
     {
         Layouts {

@@ -12,6 +12,7 @@ mod layout;
 mod layouts;
 mod planned;
 mod scan;
+mod wire;
 mod write;
 
 pub use fields::most_fields;
@@ -20,4 +21,5 @@ pub use known::Known;
 pub use laws::written_short_is_read;
 pub use layouts::Layouts;
 pub use scan::scan_packet;
+pub use wire::{put_wire, wire_room_of};
 pub use write::{put_short, short_room_of};

@@ -2,15 +2,15 @@
 
 ghost use Rattle.std.specs.Prelude.{◌≡◌, ℕ, ◌+◌, ◌<◌, ◌≤◌, List, [], if◌then◌else◌, IfSome, None, Some, drop, length};
 ghost use Rattle.std.specs.Prelude.{option_map, slice_index_or};
-ghost use Rattle.event_graph.specs.Answer.{stack_tree};
+ghost use Rattle.stack_judge.specs.Answer.{stack_tree};
 ghost use Rattle.layer_mean.specs.Tree.{no_layer};
 ghost use Rattle.packet_full.specs.Taking.{Takes, left};
 ghost use Rattle.packet_short.specs.Dealing as dealing;
 ghost use Rattle.msg_core.specs.Headers.{most_fields};
 
-use event_graph::Stack;
 use msg_core::{Fields, Header, Headers};
 use packet_full::{Cursor, form_at};
+use stack_judge::Stack;
 use stack_shapes::Plan;
 
 /// The tags and the fields of a plan that are still to be read.
@@ -65,7 +65,7 @@ impl<'a> Planned<'a> {
             (option_map (λ own. (own, self.new.fields.now)) result) (left cursor.new) }
         ensures tags { self.new.tags ≡ self.old.tags }
     {
-        let mut fields = Fields::none();
+        let mut fields = Fields::new();
         for _ in 0..count {
             let Some((first, rest)) = self.fields.split_first() else {
                 return None
@@ -119,7 +119,7 @@ impl<'a> Planned<'a> {
             self.old.fields.now (left cursor.old)) (option_map (λ _. headers.new) result) (left cursor.new) }
         ensures few { IfSome result (λ _. length headers.new + place ≤ length (stack_tree stack.now)) }
     {
-        stack.is_within_limits();
+        stack.law_within_limits();
         if place == stack.places() {
             if self.is_done() {
                 return Some(());

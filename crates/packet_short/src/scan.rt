@@ -2,7 +2,7 @@
 
 ghost use Rattle.std.specs.Prelude.{◌≡◌, ◌≤◌, IfOk, length, vec_capacity};
 ghost use Rattle.std.specs.List.{AllByRecursion};
-ghost use Rattle.event_graph.specs.Answer.{stack_tree};
+ghost use Rattle.stack_judge.specs.Answer.{stack_tree};
 ghost use Rattle.packet_full.specs.Scanned.{Scans};
 ghost use Rattle.packet_mean.specs.Plan.{kind_of};
 ghost use Rattle.packet_mean.specs.Received.{received};
@@ -39,7 +39,7 @@ pub fn scan_packet(
         (kind_of scan.new.dest) scan.new.headers fields.new.items) }
     ensures capacity { vec_capacity fields.new ≡ vec_capacity fields.old }
 {
-    known.stack.is_within_limits();
+    known.stack.law_within_limits();
     let Opened { front, mut cursor } = match open(here, bytes) {
         Ok(opened) => opened,
         Err(cause) => return Err(cause),

@@ -2,7 +2,7 @@
 use Rattle.std.proofs.Common.{◌∙◌, sym, subst, List}
 use Rattle.std.specs.Prelude.{Result}
 use Rattle.std.specs.Rc.{rc_value}
-use Rattle.event_graph.specs.Answer.{stack_tree}
+use Rattle.stack_judge.specs.Answer.{stack_tree}
 use Rattle.group_feed.specs.Standing.{Stands}
 use Rattle.group_open.specs.Examining.{IsExamination}
 use Rattle.group_open.specs.declared.run.Examination.{Examination}

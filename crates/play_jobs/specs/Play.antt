@@ -8,8 +8,8 @@ use Rattle.outside.specs.Tells.{Tells}
 use Rattle.outside.specs.Lines.{Begins, Gains, Fails}
 use Rattle.outside.specs.declared.sink.SinkError.{SinkError}
 use Rattle.outside.specs.declared.sink.SinkError.TheVariants as sink
-use Rattle.bypass_member.specs.declared.error.OpenError.{OpenError}
-use Rattle.bypass_member.specs.declared.error.OpenError.TheVariants as opening
+use Rattle.group_member.specs.declared.error.OpenError.{OpenError}
+use Rattle.group_member.specs.declared.error.OpenError.TheVariants as opening
 use Rattle.play_jobs.specs.declared.error.PlayError.{PlayError}
 use Rattle.play_jobs.specs.declared.error.PlayError.TheVariants.{TooManyRows, Failed, Memory}
 

@@ -4,8 +4,8 @@ use Rattle.std.specs.List.{concat}
 use Rattle.clap.specs.Walk.{Text}
 use Rattle.outside.specs.Lines.{Begins, Gains, Fails}
 use Rattle.outside.specs.Shelf.{Shelved, found_in}
-use Rattle.bypass_file.specs.declared.error.BypassError.{BypassError}
-use Rattle.bypass_file.specs.declared.error.BypassError.TheVariants.{TooLarge, Line, Differs, Memory}
+use Rattle.pack_judge.specs.declared.error.BypassError.{BypassError}
+use Rattle.pack_judge.specs.declared.error.BypassError.TheVariants.{TooLarge, Line, Differs, Memory}
 use Rattle.bypass_laws.specs.Stack.{AreOfStack}
 use Rattle.end_mean.specs.Status.{Ended, done, second_refused, traces_refused, read_failed, write_failed, no_memory}
 use Rattle.end_mean.specs.Status.{too_many_rows}

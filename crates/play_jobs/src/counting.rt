@@ -1,7 +1,7 @@
 //! Scripts that are made and played over a stack, and the counts of their reports' lines.
 
 ghost use Rattle.std.specs.Prelude.{◌≤◌};
-ghost use Rattle.event_graph.specs.Answer.{stack_tree};
+ghost use Rattle.stack_judge.specs.Answer.{stack_tree};
 ghost use Rattle.group_mean.specs.Shown.{shown_mode};
 ghost use Rattle.group_open.specs.Opening.{CanRun};
 ghost use Rattle.msg_core.specs.View.{most_members};
@@ -13,13 +13,13 @@ ghost use Rattle.stack_mean.specs.Plans.{plans_of};
 ghost use Rattle.stack_play.specs.Turns.{most_events};
 
 use crate::error::PlayError;
-use event_graph::Stack;
 use group_mean::Mode;
 use group_open::{Opened, open};
 use outside::Sink;
 use script_mean::GroupLine;
 use script_text::Workload;
-use stack_play::{Load, write_counts};
+use stack_judge::Stack;
+use stack_play::{PlayedLoad, write_counts};
 use std::alloc::Global;
 
 /// The group of a script that is made.
@@ -57,7 +57,7 @@ pub(crate) fn play_load<O: Sink>(
         outputs,
         mut group,
     } = opened;
-    let load = Load {
+    let load = PlayedLoad {
         stack: stack.stack(),
         plans: &plans,
         workload,

@@ -3,7 +3,7 @@
 ghost use Rattle.std.specs.Prelude.{◌≡◌};
 ghost use Rattle.play_jobs.specs.Play.{not_opened, unwritten};
 
-use bypass_member::OpenError;
+use group_member::OpenError;
 use outside::SinkError;
 use thiserror::Error;
 

@@ -2,7 +2,7 @@
 
 ghost use Rattle.std.specs.Prelude.{◌≤◌, length};
 ghost use Rattle.bypass_laws.specs.Making.{IsSound};
-ghost use Rattle.event_graph.specs.Answer.{stack_tree};
+ghost use Rattle.stack_judge.specs.Answer.{stack_tree};
 ghost use Rattle.layer_ast.specs.View.{file_tree};
 ghost use Rattle.miss_mean.specs.Text.{explained_lines};
 ghost use Rattle.outside.specs.Tells.{tells_of};
@@ -12,12 +12,12 @@ ghost use Rattle.stack_mean.specs.Plans.{plans_of};
 ghost use Rattle.stack_play.specs.Turns.{most_events};
 
 use crate::error::PlayError;
-use event_graph::Stack;
 use group_open::{Examination, open_examined};
 use layer_ast::File;
 use miss_explain::{Explanation, Texts, explain};
 use outside::Sink;
 use script_mean::{GroupLine, Script};
+use stack_judge::Stack;
 use std::alloc::Global;
 
 /// Plays a script by bypasses in the world in which it begins, and writes why its steps weren't common: a line for

@@ -2,7 +2,7 @@
 
 ghost use Rattle.std.specs.Prelude.{◌≤◌, length};
 ghost use Rattle.bypass_laws.specs.Making.{IsSound};
-ghost use Rattle.event_graph.specs.Answer.{stack_tree};
+ghost use Rattle.stack_judge.specs.Answer.{stack_tree};
 ghost use Rattle.job_ends.specs.Comes.{Comes, around};
 ghost use Rattle.job_ends.specs.Shown.{shown_end};
 ghost use Rattle.job_mean.specs.Job as job;
@@ -14,13 +14,13 @@ use crate::played::ending;
 use crate::playing::{Wanted, play_with};
 use crate::script::fetch_script;
 use crate::traces::fetch_traces;
-use event_graph::Stack;
 use file_jobs::fetch_stack;
 use group_open::has_room;
 use job_ends::Ending;
 use job_text::ReplayWith;
 use outside::{Shelf, Sink};
 use script_mean::Script;
+use stack_judge::Stack;
 use std::alloc::Global;
 use std::mem::forget;
 
@@ -44,8 +44,9 @@ pub fn replay_with<S: Shelf, O: Sink>(
     }
 }
 
-/// The same over a stack and a script that are read. The rows of the members are judged before the traces are read. The
-/// memory of the bypasses isn't given back before the program ends.
+/// Replays a script that was read over a stack by the bypasses whose traces a file holds, and writes its report. The
+/// rows of the members are judged before the traces are read. The memory of the bypasses isn't given back before the
+/// program ends.
 fn play_traces<S: Shelf, O: Sink>(
     alloc: Global,
     replay: &ReplayWith<'_>,

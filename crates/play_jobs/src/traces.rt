@@ -2,19 +2,16 @@
 
 ghost use Rattle.std.specs.Prelude.{◌≡◌};
 ghost use Rattle.bypass_laws.specs.Making.{IsSound};
-ghost use Rattle.event_graph.specs.Answer.{stack_tree};
+ghost use Rattle.stack_judge.specs.Answer.{stack_tree};
 ghost use Rattle.job_ends.specs.Shown.{shown_end};
 ghost use Rattle.play_jobs.specs.Traces.{FetchesTraces, JudgesTraces, refused_as};
 
-use bypass_file::{BypassError, read_bypasses};
-use event_graph::Stack;
 use job_ends::Ending;
 use outside::{Got, Shelf};
+use pack_judge::{BypassError, LONGEST_FILE, read_bypasses};
+use stack_judge::Stack;
 use std::alloc::Global;
 use trace_core::Bypasses;
-
-/// The most bytes of a file of traces.
-const LONGEST_TRACES: u64 = 33_554_432;
 
 /// Reads a file of traces, and makes a stack's bypasses of these; or answers how the job ends.
 pub(crate) fn fetch_traces<S: Shelf>(
@@ -28,7 +25,7 @@ pub(crate) fn fetch_traces<S: Shelf>(
         result }
 {
     let mut text = Vec::new(alloc);
-    match shelf.read(name, &mut text, LONGEST_TRACES)? {
+    match shelf.read(name, &mut text, LONGEST_FILE as u64)? {
         Got::Whole => judged(alloc, stack, &text),
         Got::TooLong => Err(Ending::TracesTooLarge),
     }

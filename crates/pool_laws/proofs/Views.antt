@@ -9,8 +9,7 @@ use Rattle.std.proofs.Math.Nat.{div-div-eq-div-mul, mod-lt, pow-suc}
 use Rattle.std.proofs.lemmas.Bool.{eqb-true, eqb-false}
 use Rattle.std.proofs.lemmas.Nat.{div-add-mod'}
 use Rattle.std.proofs.lemmas.List.Sums.{sum_by-cons}
-use Rattle.msg_core.specs.View.{member_count, ids}
-use Rattle.run_mean.specs.View.{mask_of, last_ltime}
+use Rattle.msg_core.specs.View.{member_count, ids, mask_of, last_ltime}
 use Rattle.pool_laws.specs.Views.{ViewsShrink}
 
 -- the ids below a bound whose bits are set, from one on

@@ -1,8 +1,7 @@
 -- Later views of a run have no more members than earlier ones.
 use Rattle.std.specs.Prelude.{◌≡◌, ℕ, ◌≤◌, Some}
-use Rattle.msg_core.specs.View.{member_count}
+use Rattle.msg_core.specs.View.{member_count, next_view}
 use Rattle.msg_core.specs.declared.packet.View.{View}
-use Rattle.run_mean.specs.View.{next_view}
 
 -- A view after a view has no more members.
 abbrev pub ViewsShrink : Type 0

@@ -49,6 +49,6 @@ pub fn pools_have_room()
 {}
 
 /// An accepted stack asks for no more slots than those.
-pub fn accepted_is_light()
+pub fn law_accepted_is_light()
     ensures { AcceptedIsLight }
 {}

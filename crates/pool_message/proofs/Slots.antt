@@ -8,7 +8,7 @@ use Rattle.std.proofs.lemmas.List.{get_or-set_same, get_or-set_other, length-set
 use Rattle.circular_buffer.specs.Buffer.{last_item}
 use Rattle.slot_pool.specs.Times.{hit, times}
 use Rattle.slot_pool.proofs.Times.{hit_or_not, hit_same, times-append}
-use Rattle.layer_ast.specs.declared.tokens.Dir.{Dir}
+use Rattle.layer_words.specs.declared.events.Dir.{Dir}
 use Rattle.pool_message.specs.Sent.{first_sent}
 use Rattle.pool_message.specs.Lends.{last_sent, before_last}
 use Rattle.pool_message.specs.Slots.{slot_at, standing, first_number, AreParted, IsFirst}

@@ -4,7 +4,7 @@ use Rattle.slot_pool.specs.Held.{Held, range}
 use Rattle.slot_pool.specs.References.{Moved, Covers}
 use Rattle.slot_pool.proofs.Times.{hit_same}
 use Rattle.slot_pool.proofs.References.{others-keep}
-use Rattle.layer_ast.specs.declared.tokens.Dir.{Dir}
+use Rattle.layer_words.specs.declared.events.Dir.{Dir}
 use Rattle.pool_message.specs.Seen.{body_refs, body_seen, BodyLies, refs, content_seen, Lies, refs_if, seen_if, LiesIf}
 use Rattle.pool_message.specs.Seen.{row_refs, row_seen, RowLies, event_refs, event_seen, EventLies}
 use Rattle.pool_message.specs.Sent.{sent_refs, sent_seen, SentLie}

@@ -3,8 +3,8 @@ use Rattle.std.specs.Prelude.{List, [], ◌∷◌, ◌++◌, drop}
 use denote.Struct.Tuple.{Tuple}
 use Rattle.std.specs.Borrow.{Fml, MutBor, Lends}
 use Rattle.circular_buffer.specs.Buffer.{Buffer, buffer}
-use Rattle.layer_ast.specs.declared.tokens.Dir.{Dir}
-use Rattle.layer_ast.specs.contracts.tokens.Dir as dir
+use Rattle.layer_words.specs.declared.events.Dir.{Dir}
+use Rattle.layer_words.specs.contracts.events.Dir as dir
 use Rattle.pool_message.specs.contracts.event.PoolEvent as event
 use Rattle.pool_message.specs.contracts.events.Events.{the_row}
 use Rattle.pool_message.specs.contracts.list.List as list
@@ -16,7 +16,7 @@ abbrev pub lends_first : MutBor (Buffer (Dir × PoolEvent)) → MutBor (Dir × P
 lends_first es r = Lends the_row (Tuple (dir.the_row ∷ event.the_row ∷ [])) es r
     (λ w. buffer (w ∷ drop 1 es.now.items) es.now.capacity)
 
--- the same of the list in its box
+-- the first event of a list in its box is what was last written through r
 abbrev pub lends_listed : MutBor (Buffer (Dir × PoolEvent)) → MutBor (Dir × PoolEvent) → Fml
 lends_listed es r = Lends list.the_row (Tuple (dir.the_row ∷ event.the_row ∷ [])) es r
     (λ w. buffer (w ∷ drop 1 es.now.items) es.now.capacity)

@@ -62,7 +62,8 @@ abbrev pub Joined : List Held → List Held → PoolMessage → PoolMessage → 
 Joined p q x y (Some m) = Made p q (refs x ++ refs y) (parts.join (content_seen p x) (content_seen p y)) m
 Joined p q x y None = NoSlot p q (refs x ++ refs y) (content_seen p x).body (content_seen p y).body
 
--- The same of bodies.
+-- The bytes that two bodies make: the first before the second, or the second alone where both are longer than a body
+-- may be.
 abbrev pub joined_bytes : List ℕ → List ℕ → List ℕ
 joined_bytes x y = if nat_le (length x + length y) longest_body then x ++ y else y
 

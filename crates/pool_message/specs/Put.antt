@@ -3,7 +3,7 @@ use Rattle.std.specs.Prelude.{◌≡◌, Bool, true, false, List, [], ◌∷◌,
 use Rattle.circular_buffer.specs.Buffer.{Buffer, buffer}
 use Rattle.slot_pool.specs.Held.{Held, IsFull}
 use Rattle.msg_core.specs.Chain.{Content}
-use Rattle.layer_ast.specs.declared.tokens.Dir.{Dir}
+use Rattle.layer_words.specs.declared.events.Dir.{Dir}
 use Rattle.layer_mean.specs.declared.envelope.Envelope.{Envelope}
 use Rattle.pool_message.specs.Moves.{Made}
 use Rattle.pool_message.specs.Sent.{pool_event}

@@ -5,9 +5,9 @@ use Rattle.slot_pool.specs.Held.{Held}
 use Rattle.msg_core.specs.Chain.{first_of, rest_of}
 use Rattle.msg_core.specs.Headers.{most_headers}
 use Rattle.msg_core.specs.declared.message.Header.{Header}
-use Rattle.layer_ast.specs.declared.tokens.Dir.{Dir}
-use Rattle.layer_ast.specs.declared.tokens.Dir.TheVariants.{Up, Down}
-use Rattle.layer_ast.specs.declared.tokens.Kind.TheVariants as kind
+use Rattle.layer_words.specs.declared.events.Dir.{Dir}
+use Rattle.layer_words.specs.declared.events.Dir.TheVariants.{Up, Down}
+use Rattle.layer_words.specs.declared.events.Kind.TheVariants as kind
 use Rattle.layer_mean.specs.declared.envelope.Envelope.{Envelope}
 use Rattle.layer_mean.specs.declared.run.Event.{Event}
 use Rattle.pool_message.specs.Seen.{event_refs, event_seen, EventLies}

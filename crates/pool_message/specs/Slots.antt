@@ -1,7 +1,7 @@
 -- Slots in which events stand, in an order that is kept beside them.
 use Rattle.std.specs.Prelude.{◌≡◌, ℕ, ◌+◌, ◌<◌, ◌≤◌, List, [], ◌∷◌, map, length, get_or, None}
 use Rattle.slot_pool.specs.Times.{times}
-use Rattle.layer_ast.specs.declared.tokens.Dir.{Dir}
+use Rattle.layer_words.specs.declared.events.Dir.{Dir}
 use Rattle.pool_message.specs.Sent.{first_sent}
 use Rattle.pool_message.specs.declared.event.PoolEvent.{PoolEvent}
 

@@ -2,7 +2,7 @@
 use Rattle.std.specs.Prelude.{◌≡◌, ℕ, ◌<◌, true, List, [], ◌∷◌, ◌++◌, drop, length, slice_index_or, Option, None}
 use Rattle.std.specs.Prelude.{option_to_list, is_some}
 use Rattle.circular_buffer.specs.Buffer.{Buffer, buffer}
-use Rattle.layer_ast.specs.declared.tokens.Dir.{Dir}
+use Rattle.layer_words.specs.declared.events.Dir.{Dir}
 use Rattle.layer_mean.specs.declared.envelope.Envelope.{Envelope}
 use Rattle.pool_message.specs.Sent.{first_sent, pool_event}
 use Rattle.pool_message.specs.Seen.{bodiless}

@@ -1,8 +1,8 @@
 //! Events between layers.
 
 use crate::message_place::MessagePlace;
-use layer_ast::Kind;
 use layer_mean::Envelope;
+use layer_words::Kind;
 
 /// What travels between adjacent layers. Numbers that its kind doesn't have are 0, and a Cast and a Send alone carry a
 /// message.

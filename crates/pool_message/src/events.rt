@@ -19,9 +19,9 @@ use crate::message::PoolMessage;
 use crate::message_place::MessagePlace;
 use crate::messages::Messages;
 use crate::part::Part;
-use layer_ast::Dir;
 use layer_desk::Sending;
 use layer_mean::Envelope;
+use layer_words::Dir;
 use msg_core::{Fields, Header, Headers};
 use slot_pool::Pool;
 use std::alloc::{AllocError, Global};
@@ -38,7 +38,7 @@ pub struct Events {
 
 impl Model for Events {
     ghost use Rattle.circular_buffer.specs.Buffer.{Buffer};
-    ghost use Rattle.layer_ast.specs.declared.tokens.Dir.{Dir};
+    ghost use Rattle.layer_words.specs.declared.events.Dir.{Dir};
     ghost use Rattle.pool_message.specs.declared.event.PoolEvent.{PoolEvent};
 
     ghost Value = { Buffer (Dir × PoolEvent) };
@@ -51,11 +51,11 @@ impl Events {
     ghost use Rattle.pool_message.specs.Lends.{lends_first};
 
     /// Room for `places` events.
-    pub fn fresh(alloc: Global, places: usize) -> Result<Events, AllocError>
+    pub fn with_places(alloc: Global, places: usize) -> Result<Events, AllocError>
         requires { places ≤ most_sent }
         ensures { IfOk result (λ e. e ≡ buffer [] places) }
     {
-        let list = List::fresh(alloc, places)?;
+        let list = List::with_places(alloc, places)?;
         match Box::new(alloc, list) {
             Ok(list) => Ok(Events { list }),
             Err(error) => {
@@ -280,7 +280,7 @@ pub fn pass_message(direction: Dir, header: Header, message: &mut MessagePlace)
 {
     match direction {
         Dir::Up => {
-            let _tag = message.pop_header(&mut Fields::none());
+            let _tag = message.pop_header(&mut Fields::new());
         }
         Dir::Down => message.push_header(header),
     }

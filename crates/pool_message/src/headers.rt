@@ -13,12 +13,12 @@ pub(crate) fn none_headers(first: u8, count: u8) -> Headers
     requires places { first + count ≤ 256 }
     ensures { result ≡ map none_header (range_with_len first count) }
 {
-    let mut headers = Headers::none();
+    let mut headers = Headers::new();
     for k in (0..count).rev() {
         headers.push_front(Header {
             layer: first + k,
             tag: 0,
-            fields: Fields::none(),
+            fields: Fields::new(),
         });
     }
     headers

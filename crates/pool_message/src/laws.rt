@@ -3,7 +3,7 @@
 ghost use Rattle.std.specs.Prelude.{◌≡◌, ℕ, ◌≤◌, List, ◌++◌, Option, length};
 ghost use Rattle.slot_pool.specs.Held.{Held};
 ghost use Rattle.slot_pool.specs.References.{Moved, Covers};
-ghost use Rattle.layer_ast.specs.declared.tokens.Dir.{Dir};
+ghost use Rattle.layer_words.specs.declared.events.Dir.{Dir};
 ghost use Rattle.pool_message.specs.Seen.{refs, content_seen, Lies, refs_if, seen_if, LiesIf, row_refs, row_seen};
 ghost use Rattle.pool_message.specs.Seen.{RowLies};
 ghost use Rattle.pool_message.specs.Seen.{event_refs, event_seen, EventLies};

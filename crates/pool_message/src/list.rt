@@ -9,8 +9,8 @@ ghost use Rattle.pool_message.specs.Slots.{first_number};
 use crate::event::PoolEvent;
 use crate::message_place::MessagePlace;
 use crate::short_queue::ShortQueue;
-use layer_ast::Dir;
 use layer_mean::Envelope;
+use layer_words::Dir;
 use std::alloc::{AllocError, Global};
 use std::marker::Model;
 
@@ -30,7 +30,7 @@ pub(crate) struct List {
 impl Model for List {
     ghost use Rattle.std.specs.Prelude.{◌≤◌, length, vec_capacity};
     ghost use Rattle.circular_buffer.specs.Buffer.{Buffer, buffer};
-    ghost use Rattle.layer_ast.specs.declared.tokens.Dir.{Dir};
+    ghost use Rattle.layer_words.specs.declared.events.Dir.{Dir};
     ghost use Rattle.pool_message.specs.Sent.{most_sent};
     ghost use Rattle.pool_message.specs.Slots.{standing, AreParted, IsFirst};
     ghost use Rattle.pool_message.specs.declared.event.PoolEvent.{PoolEvent};
@@ -49,7 +49,7 @@ impl List {
     ghost use Rattle.pool_message.specs.Lends.{lends_listed, lends_last, last_sent};
 
     /// Room for `places` events.
-    pub fn fresh(alloc: Global, places: usize) -> Result<List, AllocError>
+    pub fn with_places(alloc: Global, places: usize) -> Result<List, AllocError>
         requires { places ≤ most_sent }
         ensures { IfOk result (λ e. e ≡ buffer [] places) }
     {
@@ -129,7 +129,7 @@ impl List {
             }
             None => {
                 let k = self.slots.len() as u32;
-                let message = MessagePlace::empty();
+                let message = MessagePlace::new();
                 let event = PoolEvent::of(envelope, message);
                 self.slots.push_reserved((direction, event));
                 k

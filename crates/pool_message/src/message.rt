@@ -28,11 +28,11 @@ impl PoolMessage {
     ghost use Rattle.pool_message.specs.Moves.{CanKeep, Kept, Returned, Derived, Counts, Joined};
 
     /// A message without headers and without bytes.
-    pub fn nothing() -> PoolMessage
+    pub fn new() -> PoolMessage
         ensures { result ≡ bodiless [] }
     {
         PoolMessage {
-            headers: Headers::none(),
+            headers: Headers::new(),
             body: None,
         }
     }
@@ -77,7 +77,7 @@ impl PoolMessage {
         }
     }
 
-    /// The same message once more. The two share their bytes, to which there is one more reference.
+    /// A copy of this message. The two share their bytes, to which there is one more reference.
     pub fn keep(&self, pool: &mut Pool) -> PoolMessage
         requires there { Covers pool.old (refs self.now) }
         requires room { CanKeep pool.old (refs self.now) }
@@ -113,7 +113,7 @@ impl PoolMessage {
         ensures { Derived (λ m. parts.cut m from count) self result }
     {
         let PoolMessage { body, headers: _ } = self;
-        let headers = Headers::none();
+        let headers = Headers::new();
         match body {
             Some(part) => PoolMessage {
                 headers,

@@ -36,11 +36,11 @@ impl MessagePlace {
     ghost use Rattle.pool_message.specs.Moves.{CanKeep, Kept, Returned};
 
     /// A place without a message.
-    pub fn empty() -> MessagePlace
+    pub fn new() -> MessagePlace
         ensures { result ≡ None }
     {
         MessagePlace {
-            message: PoolMessage::nothing(),
+            message: PoolMessage::new(),
             is_full: false,
         }
     }

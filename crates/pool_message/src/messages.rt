@@ -45,7 +45,7 @@ impl Messages {
     ghost use Rattle.pool_message.specs.PutBody.{PutsBody};
 
     /// No message, with room for `places`.
-    pub fn fresh(alloc: Global, places: usize) -> Result<Messages, AllocError>
+    pub fn with_places(alloc: Global, places: usize) -> Result<Messages, AllocError>
         ensures { IfOk result (λ m. m ≡ buffer [] places) }
     {
         Ok(Messages {
@@ -68,6 +68,7 @@ impl Messages {
         self.places.capacity()
     }
 
+    /// Whether there is no message.
     pub fn is_empty(&self) -> bool
         ensures { result ≡ (length self.now.items == 0) }
     {
@@ -93,7 +94,7 @@ impl Messages {
         if self.count < self.places.len() {
             self.places[self.count].become_bare();
         } else {
-            self.places.push_reserved(PoolMessage::nothing());
+            self.places.push_reserved(PoolMessage::new());
         }
         self.count += 1;
     }
@@ -200,7 +201,8 @@ impl Messages {
         message.close();
     }
 
-    /// The same with a message that stays where it lies, without headers and bytes.
+    /// Moves a message into the place of message number `k`, whose reference goes back; where there is none, the new
+    /// message's reference goes back. `message` stays where it lies, without headers and bytes.
     pub fn replace_from(&mut self, k: usize, message: &mut PoolMessage, pool: &mut Pool)
         requires { Covers pool.old (refs (slice_index_or self.old.items k message.old)) }
         ensures set { self.new ≡ buffer (slice_set self.old.items k message.old) self.old.capacity }

@@ -8,7 +8,7 @@ ghost use Rattle.pool_message.specs.Moves.{CanKeep, Kept, Returned};
 use crate::message::PoolMessage;
 use slot_pool::Pool;
 
-/// The same message once more, if it is one.
+/// A copy of a message, if there is one. The two share their bytes, to which there is one more reference.
 pub fn keep_if_any(message: &Option<PoolMessage>, pool: &mut Pool) -> Option<PoolMessage>
     requires there { Covers pool.old (refs_if message.now) }
     requires room { CanKeep pool.old (refs_if message.now) }

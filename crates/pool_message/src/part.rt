@@ -20,7 +20,7 @@ impl Part {
     ghost use Rattle.pool_message.specs.Seen.{LiesIn};
     ghost use Rattle.pool_message.specs.Moves.{CanKeep, Kept, Returned, Shortened};
 
-    /// The same bytes, by one more reference.
+    /// A copy of this part: its bytes in their slot, to which there is one more reference.
     pub(crate) fn keep(&self, pool: &mut Pool) -> Part
         requires there { Covers pool.old (self.now.slot ∷ []) }
         requires room { CanKeep pool.old (self.now.slot ∷ []) }

@@ -17,7 +17,7 @@ impl PoolRow {
     ghost use Rattle.pool_message.specs.Seen.{row_refs};
     ghost use Rattle.pool_message.specs.Moves.{CanKeep, Kept, Returned};
 
-    /// The same row once more.
+    /// A copy of this row. If it ends with a message, the two share its bytes, to which there is one more reference.
     pub fn keep(&self, pool: &mut Pool) -> PoolRow
         requires there { Covers pool.old (row_refs self.now) }
         requires room { CanKeep pool.old (row_refs self.now) }

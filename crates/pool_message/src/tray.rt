@@ -15,9 +15,9 @@ use crate::list::begin_event;
 use crate::message::PoolMessage;
 use crate::message_place::MessagePlace;
 use crate::messages::Messages;
-use layer_ast::Dir;
 use layer_desk::Sending;
 use layer_mean::Envelope;
+use layer_words::Dir;
 use msg_core::{Fields, Header};
 use slot_pool::Pool;
 use std::alloc::{AllocError, Global};
@@ -77,11 +77,11 @@ impl Tray {
     ghost use Rattle.pool_message.specs.Tray.{also_sent, message_at};
 
     /// No event, and no message in a scope with room for `messages`.
-    pub fn fresh(alloc: Global, messages: usize) -> Result<Tray, AllocError>
+    pub fn with_messages(alloc: Global, messages: usize) -> Result<Tray, AllocError>
         ensures { IfOk result (λ t. t ≡ record { arrived = None; messages = buffer [] messages; sent = buffer [] 0 }) }
     {
-        let events = Events::fresh(alloc, 1)?;
-        match Messages::fresh(alloc, messages) {
+        let events = Events::with_places(alloc, 1)?;
+        match Messages::with_places(alloc, messages) {
             Ok(messages) => Ok(Tray {
                 front: Front::Gone,
                 events,
@@ -236,7 +236,8 @@ impl Tray {
         message.close();
     }
 
-    /// The same with a message that stays where it lies, without headers and bytes.
+    /// Moves a message into the place of message number `k` of the scope, whose reference goes back; where there is
+    /// none, the new message's reference goes back. `message` stays where it lies, without headers and bytes.
     pub fn replace_from(&mut self, k: usize, message: &mut PoolMessage, pool: &mut Pool)
         requires { Covers pool.old (refs (slice_index_or self.old.messages.items k message.old)) }
         ensures set { self.new ≡
@@ -360,8 +361,8 @@ impl Tray {
         send_listed(&mut self.events, &self.messages, sending, place, pool);
     }
 
-    /// The same where the scope isn't wanted any more: the other messages go, and one that is bound goes on from where
-    /// it lies.
+    /// Sends an event with message number `k` of the scope, which isn't wanted any more: the other messages go, and one
+    /// that is bound goes on from where it lies. Going down, the message gets a header first.
     #[tactic(auto, using(crate::proofs::Piles::covers_at))]
     pub fn send_and_clear(&mut self, sending: &Sending, k: usize, pool: &mut Pool)
         requires places { length self.old.sent.items < self.old.sent.capacity }
@@ -437,7 +438,8 @@ fn send_first(events: &mut Events, direction: Dir, envelope: Envelope)
     events.go_round();
 }
 
-/// The same, but going down its message, if it has one, gets a header first.
+/// The first event goes on as the last, in this direction, with this envelope and with its message, which going down
+/// gets a header first, if there is one.
 fn send_first_after(events: &mut Events, sending: &Sending)
     requires some { 0 < length events.old.items }
     requires room { CanPass sending.now.direction (first_message events.old.items) }

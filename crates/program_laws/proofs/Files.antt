@@ -2,7 +2,7 @@
 use Rattle.std.proofs.Common.{arith, ◌≡◌, refl, sym, ◌∙◌, ap, subst, ℕ, ◌<◌, ◌≤◌, List, [], ◌∷◌, length, inl, inr}
 use Rattle.std.specs.Prelude.{◌⊎◌, Result, Ok, Err}
 use Rattle.std.specs.List.{AllZip}
-use Rattle.layer_ast.specs.declared.names.At.{At}
+use Rattle.layer_words.specs.declared.places.At.{At}
 use Rattle.layer_ast.specs.Print as print
 use Rattle.layer_ast.specs.Stops.{StopsInside, StopsAtEnd}
 use Rattle.layer_ast.specs.Tree.{LayerTree, FileTree}

@@ -47,10 +47,11 @@ pub record Run : Type 0 where
   pub said : List ℕ
   pub status : ℕ
 
--- A count rose, and a count stood still.
+-- A count of faults rose over a run.
 abbrev pub Fails : Counted → Type 0
 Fails count = Rose count.before count.after
 
+-- A count of faults stood still over a run.
 abbrev pub IsSound : Counted → Type 0
 IsSound count = count.after ≡ count.before
 
@@ -112,11 +113,12 @@ WritesOf print (node name plan turns me patience mode) r file second out =
     Serves file second (node_words turns me patience mode) r.surroundings out r.sent
 WritesOf print (audit name law) r file second out = Audits file law out × HandsNothing r
 
--- How a job ends if its whole output was written: an audit that found a breach has an end of its own.
+-- How an audit ends if its whole output was written: one that found a breach has an end of its own.
 abbrev pub end_found : Result Finding AuditFault → Ended
 end_found (Ok (Breach first second)) = breached
 end_found _ = done
 
+-- How a job ends if its whole output was written: only an audit may have found a breach.
 abbrev pub whole_end : Job → (file : List ℕ) → Ended
 whole_end (audit name law) file = end_found (audit_of law file)
 whole_end _ file = done
@@ -245,12 +247,13 @@ Ends print r write_failed = Fails r.puts × Began print r
 Ends print r link_failed = IsSound r.puts × OfJob r (λ job file second. LinksFail job r file second)
 Ends print r no_memory = WroteNothing r ⊎ Began print r
 
--- The line of a cause was said whole, or a prefix of it where the standard error failed or memory ran out, which is
--- status 7.
+-- The whole bytes begin with this part.
 pub record Begins (whole part : List ℕ) : Type 0 where
   pub rest : List ℕ
   pub is : whole ≡ part ++ rest
 
+-- The line of a cause was said whole, or a prefix of it where the standard error failed or memory ran out, which is
+-- status 7.
 pub data Says (r : Run) (end : Ended) : Type 0 where
   whole : r.said ≡ error_line end → r.status ≡ status_number end → Says r end
   cut_off : Begins (error_line end) r.said → Fails r.errors → r.status ≡ status_number end → Says r end

@@ -1,6 +1,6 @@
 -- Files that are refused, from their bytes to their causes.
 use Rattle.std.specs.Prelude.{ℕ, List, [], ◌∷◌, ◌++◌, codes}
-use Rattle.layer_ast.specs.declared.tokens.Kind.TheVariants as kind
+use Rattle.layer_words.specs.declared.events.Kind.TheVariants as kind
 use Rattle.layer_ast.specs.Samples.{at}
 use Rattle.fault_mean.specs.Samples.{small_text}
 use Rattle.end_mean.specs.Status.{unknown, cycle, too_many, bad_token, unexpected}

@@ -24,7 +24,7 @@ pub fn replays_counter()
     ensures { ReplaysCounter }
 {}
 
-/// The same with bypasses, with the packet's bytes and the number of visits.
+/// A replay of the counter layer with bypasses, with the packet's bytes and the number of visits.
 pub fn replays_short()
     ensures { ReplaysShort }
 {}

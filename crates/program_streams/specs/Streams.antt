@@ -18,7 +18,7 @@ pub record Stream : Type 0 where
 abbrev pub stream : Tells → Tells → Option (List ℕ) → Stream
 stream before after holds = record { before = before; after = after; holds = holds }
 
--- The same of a sink that gathers for a stream, by what both tell.
+-- A sink that gathers for a stream, before and after a run, and what its stream holds in the end, by what both tell.
 abbrev pub over : {W : Type 0} (w : writes.Ghosts W) → outputs.Ghosts (StdSink W w) → (old new : StdSink W w) → Stream
 over w sink old new = stream (tells_of sink old) (tells_of sink new) (w.contents (stream_of new))
 

@@ -14,7 +14,7 @@ pub fn begin<R: AllocGlobal + Env, O: Write + Drop, E: Write + Drop>(
 ) -> io::Result<(Vec<String>, StdSink<O>, StdSink<E>)> {
     let alloc = system.alloc();
     let words = command_words(system)?;
-    let out = StdSink::of(alloc, out)?;
-    let err = StdSink::of(alloc, err)?;
+    let out = StdSink::new(alloc, out)?;
+    let err = StdSink::new(alloc, err)?;
     Ok((words, out, err))
 }

@@ -28,7 +28,7 @@ fn leaves(
     puts: Vec<Option<u64>>,
     expected: Expected<'_>,
 ) -> Result<bool, AllocError> {
-    let mut shelf = MemShelf::of(files(alloc)?, reads);
+    let mut shelf = MemShelf::new(files(alloc)?, reads);
     let left = left_by(alloc, texts, &mut shelf, puts)?;
     Ok(left.is(expected))
 }

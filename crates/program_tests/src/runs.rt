@@ -71,8 +71,8 @@ pub(crate) fn left_over(
     links: &mut MemLinks,
     clock: &mut MemClock,
 ) -> Result<Left, AllocError> {
-    let mut out = MemSink::of(alloc, puts);
-    let mut err = MemSink::of(alloc, Vec::new(alloc));
+    let mut out = MemSink::new(alloc, puts);
+    let mut err = MemSink::new(alloc, Vec::new(alloc));
     let status = run_over(alloc, words, shelf, &mut out, &mut err, links, clock);
     left_on(alloc, status, &out, &err)
 }
@@ -93,7 +93,7 @@ pub(crate) fn left_on(
 
 /// Links to nobody.
 pub(crate) fn no_links(alloc: Global) -> MemLinks {
-    MemLinks::of(alloc, Vec::new(alloc), Vec::new(alloc), Vec::new(alloc))
+    MemLinks::new(alloc, Vec::new(alloc), Vec::new(alloc), Vec::new(alloc))
 }
 
 /// What a job over files left, with the puts that are to fail.
@@ -105,7 +105,7 @@ pub(crate) fn left_by(
 ) -> Result<Left, AllocError> {
     let words = words(alloc, texts)?;
     let mut links = no_links(alloc);
-    let mut clock = MemClock::of(Vec::new(alloc));
+    let mut clock = MemClock::new(Vec::new(alloc));
     left_over(alloc, &words, shelf, puts, &mut links, &mut clock)
 }
 

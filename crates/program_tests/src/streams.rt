@@ -50,7 +50,7 @@ fn sink_of(alloc: Global, most: usize, stuck: bool) -> Result<StdSink<Narrow>, A
         most,
         stuck,
     };
-    StdSink::of(alloc, stream)
+    StdSink::new(alloc, stream)
 }
 
 /// What a replay left on its streams.
@@ -62,7 +62,7 @@ fn left_through(
 ) -> Result<Left, AllocError> {
     let words = words(alloc, REPLAY)?;
     let mut links = no_links(alloc);
-    let mut clock = MemClock::of(Vec::new(alloc));
+    let mut clock = MemClock::new(Vec::new(alloc));
     let status = run_narrowly(alloc, &words, shelf, out, err, &mut links, &mut clock);
     Ok(Left {
         status,
@@ -73,7 +73,7 @@ fn left_through(
 
 /// A run of the counter layer, or of another file, over a stream that takes `most` bytes.
 fn streamed(alloc: Global, file: &[u8], most: usize, stuck: bool) -> Result<Left, AllocError> {
-    let mut shelf = MemShelf::of(pair(alloc, file, "s", FIRST)?, Vec::new(alloc));
+    let mut shelf = MemShelf::new(pair(alloc, file, "s", FIRST)?, Vec::new(alloc));
     let mut out = sink_of(alloc, most, stuck)?;
     let mut err = sink_of(alloc, 100, false)?;
     left_through(alloc, &mut shelf, &mut out, &mut err)

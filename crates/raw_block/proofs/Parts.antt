@@ -47,7 +47,7 @@ module _ (E : El) where
   abbrev pub Mark : RattleType
   Mark = Struct (shape (filled.the_type (R E)))
 
-  -- the same type parameter, as the lemmas on the elements of a `Vec` have it
+  -- the type parameter of a block, as the lemmas on the elements of a `Vec` have it
   abbrev pub in_a_run : run.El
   in_a_run = record { row = E.row; laws = E.laws; al = run.no_al }
 

@@ -59,18 +59,21 @@ impl<T, A: Allocator> Block<T, A> {
     ghost use Rattle.raw_block.specs.Run.{run};
     ghost use Rattle.raw_block.specs.BlockLends.{lends_item};
 
+    /// How many values were pushed.
     pub fn len(&self) -> usize
         ensures { result ≡ length self.now.values }
     {
         self.len
     }
 
+    /// How many values there is room for, those that were pushed included.
     pub fn capacity(&self) -> usize
         ensures { result ≡ self.now.capacity }
     {
         self.capacity
     }
 
+    /// Puts a value after the others, where there is room for one.
     pub fn push(&mut self, value: T)
         requires { length self.old.values < self.old.capacity }
         ensures { self.new ≡ run (self.old.values ++ value ∷ []) self.old.capacity }
@@ -79,6 +82,7 @@ impl<T, A: Allocator> Block<T, A> {
         self.len += 1;
     }
 
+    /// The values, in the order in which they were pushed.
     pub fn as_slice(&self) -> &[T]
         ensures { result.now ≡ self.now.values }
     {

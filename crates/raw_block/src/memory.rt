@@ -57,6 +57,8 @@ impl<T, A: Allocator> Model for Lease<T, A> {
     ghost also_shares = { λ _ _ _. ftrue };
 }
 
+/// Memory for so many values, of which none is there yet: where it begins, its owner, and the right to give it back; or
+/// the allocator's refusal.
 pub(crate) fn take_block<T, A: Allocator>(
     alloc: &A,
     places: usize,
@@ -114,6 +116,7 @@ impl<T> Filled<T> {
         unsafe { start.first.add(index).write(value) }
     }
 
+    /// The values of the filled places, in order.
     pub(crate) fn values(&self, start: Start<T>, count: usize) -> &[T]
         requires { (start.first ≡ self.now.at) × (count ≡ length self.now.values) }
         ensures { result.now ≡ self.now.values }

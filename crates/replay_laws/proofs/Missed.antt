@@ -14,8 +14,8 @@ use Rattle.msg_core.specs.declared.message.Header.{Header}
 use Rattle.msg_core.specs.declared.packet.Dest.{Dest}
 use Rattle.msg_core.specs.declared.packet.Dest.TheVariants as dest
 use Rattle.msg_core.specs.declared.packet.Packet.{Packet}
-use Rattle.layer_ast.specs.contracts.tokens.Kind as kind_row
-use Rattle.layer_ast.specs.declared.tokens.Dir.{Dir}
+use Rattle.layer_words.specs.contracts.events.Kind as kind_row
+use Rattle.layer_words.specs.declared.events.Dir.{Dir}
 use Rattle.layer_mean.specs.declared.run.Case.{Case}
 use Rattle.layer_mean.specs.declared.run.Case.TheVariants.{First, Second}
 use Rattle.layer_mean.specs.declared.run.Event.{Event}

@@ -6,13 +6,13 @@ use Rattle.std.specs.Prelude.{option_map}
 use Rattle.std.specs.List.{fold, AllByRecursion, filter_map, range_with_len}
 use Rattle.std.specs.Option.{option_map_or}
 use Rattle.msg_core.specs.Chain.{Content}
-use Rattle.msg_core.specs.View.{member_count, rank}
+use Rattle.msg_core.specs.View.{member_count, rank, first_view, next_view}
 use Rattle.msg_core.specs.declared.packet.Packet.{Packet}
 use Rattle.msg_core.specs.declared.packet.View.{View}
-use Rattle.layer_ast.specs.declared.syntax.Likely.{Likely}
-use Rattle.layer_ast.specs.declared.syntax.Likely.TheVariants as likely
-use Rattle.layer_ast.specs.declared.tokens.Dir.{Dir}
-use Rattle.layer_ast.specs.declared.tokens.Dir.TheVariants.{Up, Down}
+use Rattle.layer_words.specs.declared.sorts.Likely.{Likely}
+use Rattle.layer_words.specs.declared.sorts.Likely.TheVariants as likely
+use Rattle.layer_words.specs.declared.events.Dir.{Dir}
+use Rattle.layer_words.specs.declared.events.Dir.TheVariants.{Up, Down}
 use Rattle.layer_mean.specs.declared.run.Event.{Event}
 use Rattle.layer_mean.specs.declared.run.Row.{Row}
 use Rattle.layer_mean.specs.Tree.{StatementTree, bind, assign, assign_square, push, take, branch, each, emit}
@@ -30,7 +30,6 @@ use Rattle.layer_mean.specs.Queue.{layers, unstarted_work}
 use Rattle.packet_mean.specs.Spelling.{full_bytes}
 use Rattle.stack_mean.specs.Plan.{Plan}
 use Rattle.script_mean.specs.declared.event.ScriptEvent.TheVariants as script
-use Rattle.run_mean.specs.View.{first_view, next_view}
 use Rattle.run_mean.specs.Member as member
 use Rattle.run_mean.specs.Member.{Member, inside, out, opened_member, Input, cast, send, leave, tick, datagram, Refusal}
 use Rattle.run_mean.specs.Member.{Entered, announced_ranks, first_task, installed_member, most_turns, output_of}

@@ -66,7 +66,7 @@ RunsExpand = (mode : Mode) (stack : List LayerTree) (w : World) (events : List S
 abbrev pub script_world : List LayerTree → Script → World
 script_world stack script = first_world stack script.group script.stamp script.members
 
--- The same in the run of a script.
+-- There is one datagram for each packet of the run of a script, in order, and each expands to its own.
 abbrev pub ScriptExpands : Mode → List LayerTree → Script → Type 0
 ScriptExpands mode stack script =
     RunExpands mode stack (script_world stack script) (run_of stack (plans_of stack) script)

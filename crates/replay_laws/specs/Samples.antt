@@ -1,6 +1,9 @@
--- A cast over the counter's stack that is given to a member twice: the second time it isn't the one that is due.
-use Rattle.std.specs.Prelude.{◌≡◌, ℕ, List, [], ◌∷◌, map, slice_get, Option, Some, None, codes, Result, Ok, Err}
-use Rattle.layer_ast.specs.declared.tokens.Kind.TheVariants.{Cast}
+-- A cast over the counter's stack that is given to a member twice: the second time it isn't the one that is due. And
+-- the world of two members over that stack.
+use Rattle.std.specs.Prelude.{◌≡◌, ℕ, List, [], ◌∷◌, length, map, slice_get, Option, Some, None, codes, Result, Ok}
+use Rattle.std.specs.Prelude.{Err}
+use Rattle.std.specs.List.{AllByRecursion}
+use Rattle.layer_words.specs.declared.events.Kind.TheVariants.{Cast}
 use Rattle.layer_mean.specs.declared.run.Case.TheVariants.{First}
 use Rattle.packet_mean.specs.Spelling.{full_form, short_form}
 use Rattle.stack_mean.specs.NoShape.{NoShape}
@@ -11,8 +14,9 @@ use Rattle.script_mean.specs.declared.event.ScriptEvent.TheVariants as script
 use Rattle.run_mean.specs.Mode.{Mode, layered, bypass}
 use Rattle.file_mean.specs.CounterFile as counter
 use Rattle.run_mean.specs.Common.{first_missed}
-use Rattle.run_mean.specs.World.{first_world, Did, taken}
+use Rattle.run_mean.specs.World.{World, first_world, happens, Did, taken}
 use Rattle.run_mean.specs.Report.{Moment, moments}
+use Rattle.member_laws.specs.Members.{IsChainedWorld, IsChainedMoment}
 use Rattle.replay_laws.specs.Datagrams.{datagrams}
 use Rattle.replay_laws.specs.Missed.{shape_decisions}
 
@@ -44,3 +48,18 @@ GivenTwice =
     (map (λ m. missed_by m.happening.did) counter_moments ≡ None ∷ None ∷ Some 0 ∷ []) ×
     (decisions_of (shape counter.stack app_cast First) ≡ 0) ×
     (decisions_of (shape counter.stack (packet_entry Cast (1 ∷ [])) First) ≡ 1)
+
+-- Two members over the counter's stack, of whom the first casts.
+abbrev pub two_members : World
+two_members = first_world counter.stack 1 1 2
+
+abbrev pub one_cast : List ScriptEvent
+one_cast = script.Cast 0 (codes "hi") ∷ []
+
+-- Their world is chained at first and after the cast, which sent a packet.
+abbrev pub CounterWorld : Type 0
+CounterWorld =
+    IsChainedWorld counter.stack two_members ×
+    AllByRecursion (IsChainedMoment counter.stack) (moments counter.stack (plans_of counter.stack) two_members one_cast)
+    ×
+    (length (happens counter.stack (plans_of counter.stack) two_members (script.Cast 0 (codes "hi"))).world.packets ≡ 1)

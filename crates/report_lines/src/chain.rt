@@ -5,7 +5,7 @@ ghost use Rattle.std.specs.Prelude.{slice_index_or};
 ghost use Rattle.msg_core.specs.Headers.{most_headers};
 ghost use Rattle.std.specs.List.{join_by};
 ghost use Rattle.std.specs.Fmt.{decimal};
-ghost use Rattle.event_graph.specs.Answer.{stack_tree};
+ghost use Rattle.stack_judge.specs.Answer.{stack_tree};
 ghost use Rattle.run_mean.specs.Text.{chain_text};
 ghost use Rattle.report_lines.specs.Lead.{lead};
 ghost use Rattle.report_lines.specs.Nones.{slashed_headers, header_front, none_of, nones, slashed_header};

@@ -28,7 +28,7 @@ impl Model for Digits {
 impl Digits {
     /// Those of no bytes, which take no memory.
     #[tactic(auto, using(crate::proofs::Spelled::no_digits))]
-    pub(crate) fn none(alloc: Global) -> Digits
+    pub(crate) fn new(alloc: Global) -> Digits
         ensures { result ≡ [] }
     {
         Digits {
@@ -44,6 +44,7 @@ impl Digits {
         self.bytes.as_slice() == bytes
     }
 
+    /// The digits of the bytes: two for each, in lower case.
     pub(crate) fn slice(&self) -> &[u8]
         ensures { result.now ≡ encode_lower self.now }
     {

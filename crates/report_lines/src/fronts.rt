@@ -1,13 +1,13 @@
 //! The texts before the numbers of declared headers.
 
 ghost use Rattle.std.specs.Prelude.{◌≡◌, ◌+◌, ◌<◌, ◌∷◌, [], IfOk, OnOk, length};
-ghost use Rattle.event_graph.specs.Answer.{stack_tree};
+ghost use Rattle.stack_judge.specs.Answer.{stack_tree};
 ghost use Rattle.report_lines.specs.Fronts.{AddFronts, AreAllFronts, tags_at};
 
 use crate::line::Line;
 use crate::names::push_front;
-use event_graph::Stack;
 use msg_core::{Fields, Header, Memory};
+use stack_judge::Stack;
 use std::alloc::Global;
 
 /// The texts `LAYER.HEADER(` of the declared headers of a stack, one after the other: where each begins, and where the
@@ -30,7 +30,7 @@ fn tags_of(stack: &Stack, place: u8) -> u8
 
 impl Fronts {
     /// Those of no place.
-    pub(crate) fn none(alloc: Global) -> Result<Fronts, Memory>
+    pub(crate) fn new(alloc: Global) -> Result<Fronts, Memory>
         ensures { IfOk result (λ fronts. (fronts.texts ≡ []) × (fronts.begins.items ≡ 0 ∷ []) ×
             (fronts.firsts.items ≡ 0 ∷ [])) }
     {
@@ -69,7 +69,7 @@ impl Fronts {
             let header = Header {
                 layer: place,
                 tag: number + 1,
-                fields: Fields::none(),
+                fields: Fields::new(),
             };
             self.push(stack, &header)?;
         }

@@ -69,7 +69,7 @@ impl Line {
     {
         Line {
             bytes: Vec::new(alloc),
-            last: Digits::none(alloc),
+            last: Digits::new(alloc),
         }
     }
 
@@ -80,6 +80,7 @@ impl Line {
         self.bytes.clear();
     }
 
+    /// The bytes of the line so far.
     pub fn slice(&self) -> &[u8]
         ensures { result.now ≡ self.now }
     {

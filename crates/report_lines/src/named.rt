@@ -4,13 +4,13 @@ ghost use Rattle.std.specs.Prelude.{◌≡◌, ◌+◌, ◌-◌, ◌<◌, ◌≤
 ghost use Rattle.std.specs.Rc.{rc_value};
 ghost use Rattle.layer_mean.specs.Tree.{no_layer};
 ghost use Rattle.typed_layer.specs.View.{layer_tree};
-ghost use Rattle.event_graph.specs.Answer.{stack_tree};
+ghost use Rattle.stack_judge.specs.Answer.{stack_tree};
 ghost use Rattle.report_lines.specs.Fronts.{IsFront, IsNumber, declared_headers, header_of};
 ghost use Rattle.report_lines.specs.Nones.{slashed_headers, first_nones, header_front, none_of, nones, slashed_header};
 
 use crate::fronts::Fronts;
-use event_graph::Stack;
 use msg_core::Memory;
+use stack_judge::Stack;
 use std::alloc::Global;
 use std::marker::Model;
 use std::rc::Rc;
@@ -29,9 +29,9 @@ pub struct NamedStack {
 impl Model for NamedStack {
     ghost use Rattle.std.specs.Coded.{codes};
     ghost use Rattle.std.specs.Rc.{rc_value};
-    ghost use Rattle.event_graph.specs.Answer.{stack_tree};
-    ghost use Rattle.event_graph.specs.contracts.stack.Stack as stack_row;
-    ghost use Rattle.event_graph.specs.declared.stack.Stack.{Stack};
+    ghost use Rattle.stack_judge.specs.Answer.{stack_tree};
+    ghost use Rattle.stack_judge.specs.contracts.stack.Stack as stack_row;
+    ghost use Rattle.stack_judge.specs.declared.stack.Stack.{Stack};
     ghost use Rattle.std.specs.Prelude.{length};
     ghost use Rattle.report_lines.specs.Fronts.{AreAllFronts};
     ghost use Rattle.report_lines.specs.Nones.{AreLaidOut};
@@ -73,7 +73,7 @@ impl NamedStack {
     {
         let mut texts = Vec::new(alloc);
         let mut places = Vec::new(alloc);
-        let mut fronts = Fronts::none(alloc)?;
+        let mut fronts = Fronts::new(alloc)?;
         places.push(0)?;
         for place in 0..stack.places() {
             push_none(&mut texts, &stack, place)?;

@@ -1,14 +1,14 @@
 //! Headers by name, without their numbers.
 
 ghost use Rattle.std.specs.Prelude.{◌≡◌, ◌++◌, OnOk};
-ghost use Rattle.event_graph.specs.Answer.{stack_tree};
+ghost use Rattle.stack_judge.specs.Answer.{stack_tree};
 ghost use Rattle.run_mean.specs.Text.{header_name, layer_number};
 ghost use Rattle.report_lines.specs.Layer.{layer_or_none};
 ghost use Rattle.report_lines.specs.Nones.{header_front};
 
 use crate::line::Line;
-use event_graph::Stack;
 use msg_core::{Header, Memory};
+use stack_judge::Stack;
 use typed_layer::TypedLayer;
 
 /// The layer at a place, if there is one.

@@ -1,7 +1,7 @@
 //! What the lines of cells are built of.
 
 ghost use Rattle.std.specs.Prelude.{◌≡◌, ◌++◌, ◌<◌, OnOk, length, slice_index_or, codes};
-ghost use Rattle.event_graph.specs.Answer.{stack_tree};
+ghost use Rattle.stack_judge.specs.Answer.{stack_tree};
 ghost use Rattle.layer_mean.specs.State.{cell_at, numbers_in, rows_at};
 ghost use Rattle.group_feed.specs.Showing.{row_meant, state_at};
 ghost use Rattle.report_lines.specs.Cells.{cell_front};
@@ -12,7 +12,7 @@ ghost use Rattle.typed_layer.specs.View.{layer_tree};
 ghost use Rattle.report_text.specs.Cells.{index_if, no_row, queue_line};
 
 use group_feed::{RowView, Shows, Spot};
-use layer_ast::Word;
+use layer_words::Word;
 use msg_core::Memory;
 use report_lines::{
     Line, NamedStack, push_cell, push_index, push_lead, push_message_row, push_numbers_row,

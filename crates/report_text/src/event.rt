@@ -1,7 +1,7 @@
 //! The lines of what one event of a script yielded.
 
 ghost use Rattle.std.specs.Prelude.{◌≡◌, ◌+◌, ◌^◌, ◌<◌, ◌∷◌, ◌++◌, [], OnOk, length};
-ghost use Rattle.event_graph.specs.Answer.{stack_tree};
+ghost use Rattle.stack_judge.specs.Answer.{stack_tree};
 ghost use Rattle.group_feed.specs.Showing.{shown_in};
 ghost use Rattle.stack_shapes.specs.Trees.{plans_tree};
 ghost use Rattle.run_mean.specs.Lines as report;

@@ -1,7 +1,7 @@
 //! The lines of a step's outputs.
 
 ghost use Rattle.std.specs.Prelude.{◌≡◌, ◌+◌, ◌^◌, ◌<◌, ◌≤◌, ◌++◌, [], true, IfOk, OnOk, length};
-ghost use Rattle.event_graph.specs.Answer.{stack_tree};
+ghost use Rattle.stack_judge.specs.Answer.{stack_tree};
 ghost use Rattle.packet_full.specs.Sent.{sent_packet};
 ghost use Rattle.run_mean.specs.Common.{wire};
 ghost use Rattle.run_mean.specs.Lines as report;

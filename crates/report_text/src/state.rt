@@ -1,7 +1,7 @@
 //! The lines of a member that is shown.
 
 ghost use Rattle.std.specs.Prelude.{◌∷◌, [], codes};
-ghost use Rattle.event_graph.specs.Answer.{stack_tree};
+ghost use Rattle.stack_judge.specs.Answer.{stack_tree};
 ghost use Rattle.layer_mean.specs.State.{cell_at, rows_at};
 ghost use Rattle.group_feed.specs.Showing.{shown_in, state_at};
 ghost use Rattle.run_mean.specs.Lines as report;
@@ -14,7 +14,7 @@ ghost use Rattle.report_text.specs.Cells.{cells_shown, layers_shown, numbers_lin
 use crate::cells::{Queues, build_numbers, build_queue};
 use crate::pen::Pen;
 use group_feed::{Shows, Spot};
-use layer_ast::Word;
+use layer_words::Word;
 use msg_core::View;
 use outside::{Sink, SinkError, put_line};
 use report_lines::{NamedStack, state_line, state_out_line};

@@ -8,7 +8,7 @@ ghost use Rattle.stack_shapes.specs.Trees.{plans_tree};
 use msg_core::Memory;
 use packet_full::PacketView;
 use packet_mean::Here;
-use packet_wire::{put_wire, wire_room_of};
+use packet_short::{put_wire, wire_room_of};
 use stack_shapes::Plans;
 
 /// Spells a packet as it is sent, in place of what a vector holds: short under its plan, where it has one and there is

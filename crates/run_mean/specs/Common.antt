@@ -36,6 +36,7 @@ entry_of plans (clock_tick moment) = None
 abbrev pub longest_shape : ℕ
 longest_shape = 4096
 
+-- Whether there is a shape, and its length is at most that of the longest common one.
 abbrev pub is_short : Result Shape NoShape → Bool
 is_short (Ok s) = nat_le s.length longest_shape
 is_short (Err reason) = false
@@ -47,13 +48,14 @@ is_common_in stack plans s case =
     option_map_or (λ known. is_short (shape stack known case)) (entry_of plans s.entered) false &&
     is_predicted case s.work
 
--- The case of a step is the first in which it is common. A step is common if it has a case.
+-- The case of a step is the first in which it is common.
 abbrev pub case_of : List LayerTree → List Plan → Step → Option Case
 case_of stack plans s =
     if is_common_in stack plans s First then Some First
     else if is_common_in stack plans s Second then Some Second
     else None
 
+-- A step is common if it has a case.
 abbrev pub is_common : List LayerTree → List Plan → Step → Bool
 is_common stack plans s = is_some (case_of stack plans s)
 
@@ -86,12 +88,12 @@ abbrev pub short_from : Mode → List LayerTree → List Plan → Step → Optio
 short_from layered stack plans s = None
 short_from bypass stack plans s = option_and_then (first_plan stack s.entered) (case_of stack plans s)
 
--- The number of an output's plan, if plans belong to such outputs and there is a plan of this number. Each such output
--- takes one number.
+-- The number of an output's plan, if plans belong to such outputs and there is a plan of this number.
 abbrev pub plan_for : List Plan → Option ℕ → Output → Option ℕ
 plan_for plans next o = if is_planned o then option_and_then (λ k. option_map (λ plan. k) (slice_get plans k)) next else
     None
 
+-- The number that the next output's plan may have: each output to which plans belong takes one number.
 abbrev pub plan_after : Option ℕ → Output → Option ℕ
 plan_after next o = if is_planned o then option_map (λ k. k + 1) next else next
 

@@ -39,6 +39,7 @@ pub record Hearing : Type 0 where
   pub notes : List Note
   pub patience : Option ℕ
 
+-- What was heard, with one more note before the others.
 abbrev pub noting : Note → Hearing → Hearing
 noting note h = record h { notes = note ∷ h.notes }
 
@@ -77,11 +78,12 @@ notes_from plan me t (suc turns) patience (moment ∷ clock) heard =
 abbrev pub notes_of : NodePlan → List ℕ → (turns patience : ℕ) → List ℕ → List Heard → List Note
 notes_of plan me turns patience clock heard = notes_from plan me 0 turns patience clock heard
 
--- The event of a note, if it is one; the journal of a node is the events of its notes.
+-- The event of a note, if it is one.
 abbrev pub event_in : Note → Option ScriptEvent
 event_in (fed event) = Some event
 event_in (deaf id) = None
 
+-- The journal of a node: the events of its notes, in order.
 abbrev pub journal : List Note → List ScriptEvent
 journal notes = filter_map event_in notes
 
@@ -102,11 +104,15 @@ abbrev pub receivers : ℕ → View → Dest → List ℕ
 receivers id view All = filter (λ other. not (other == id)) (ids view)
 receivers id view (Rank rank) = option_to_list (slice_get (ids view) rank)
 
+-- The datagrams that a member hands to the network for an output: for a packet, one to each receiver, short under the
+-- output's plan if it has one.
 abbrev pub handed_output : List Plan → ℕ → Output × Option ℕ → List Handed
 handed_output plans id (packet p, plan) =
     map (λ to. record { from = id; to = to; bytes = wire plans p plan }) (receivers id p.view p.dest)
 handed_output plans id (_, plan) = []
 
+-- The datagrams that a member hands to the network, in a mode, for what one of its events gave: those of a step's
+-- packets, in order.
 abbrev pub handed_in : Mode → List LayerTree → List Plan → ℕ → Did → List Handed
 handed_in mode stack plans id (taken s) = flat_map (handed_output plans id) (as_sent mode stack plans s)
 handed_in mode stack plans id _ = []

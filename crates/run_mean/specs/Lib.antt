@@ -1,5 +1,4 @@
 pub mod Mode
-pub mod View
 pub mod Member
 pub mod World
 pub mod Common

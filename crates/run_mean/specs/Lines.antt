@@ -22,7 +22,7 @@ line words = join_by (λ word. word) (codes " ") words ++ codes "\n"
 abbrev pub deliver_line : ℕ → List ℕ → ℕ → List ℕ → List ℕ
 deliver_line id what peer body = line (codes "deliver" ∷ decimal id ∷ what ∷ decimal peer ∷ hex_text body ∷ [])
 
--- `block M A`, `announce M A` and `timer M A`.
+-- `block M A`, `announce M A` and `timer M A`: a word, a member and a number.
 abbrev pub number_line : List ℕ → ℕ → ℕ → List ℕ
 number_line what id a = line (what ∷ decimal id ∷ decimal a ∷ [])
 
@@ -41,17 +41,19 @@ packet_line stack k id p =
 abbrev pub wire_line : ℕ → List ℕ → List ℕ
 wire_line k bytes = line (codes "wire" ∷ decimal k ∷ hex_text bytes ∷ [])
 
--- `view M LTIME MASK`, `out M`, `state M LTIME MASK` and `state M out`.
+-- `view M LTIME MASK` and `state M LTIME MASK`: a word, a member and its view.
 abbrev pub view_line : List ℕ → ℕ → View → List ℕ
 view_line what id view = line (what ∷ decimal id ∷ decimal view.ltime ∷ decimal view.mask ∷ [])
 
+-- `out M`: member M leaves.
 abbrev pub out_line : ℕ → List ℕ
 out_line id = line (codes "out" ∷ decimal id ∷ [])
 
+-- `state M out`: member M, which is shown, is out.
 abbrev pub state_out_line : ℕ → List ℕ
 state_out_line id = line (codes "state" ∷ decimal id ∷ codes "out" ∷ [])
 
--- A cause in lower case.
+-- The word for why a datagram is stray.
 abbrev pub stray_text : Stray → List ℕ
 stray_text stray.Short = codes "short"
 stray_text stray.Form = codes "form"
@@ -64,6 +66,7 @@ stray_text stray.Plan = codes "plan"
 stray_text stray.Chain = codes "chain"
 stray_text stray.Body = codes "body"
 
+-- The word for why an input is refused.
 abbrev pub cause_text : Refusal → List ℕ
 cause_text is_out = codes "out"
 cause_text too_big = codes "big"

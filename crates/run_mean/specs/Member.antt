@@ -10,10 +10,10 @@ use Rattle.msg_core.specs.declared.packet.Dest.TheVariants.{All, Rank}
 use Rattle.msg_core.specs.declared.packet.Packet.{Packet}
 use Rattle.msg_core.specs.declared.packet.Stray.{Stray}
 use Rattle.msg_core.specs.declared.packet.View.{View}
-use Rattle.layer_ast.specs.declared.tokens.Dir.{Dir}
-use Rattle.layer_ast.specs.declared.tokens.Dir.TheVariants.{Up, Down}
-use Rattle.layer_ast.specs.declared.tokens.Kind.{Kind}
-use Rattle.layer_ast.specs.declared.tokens.Kind.TheVariants as kind
+use Rattle.layer_words.specs.declared.events.Dir.{Dir}
+use Rattle.layer_words.specs.declared.events.Dir.TheVariants.{Up, Down}
+use Rattle.layer_words.specs.declared.events.Kind.{Kind}
+use Rattle.layer_words.specs.declared.events.Kind.TheVariants as kind
 use Rattle.layer_mean.specs.declared.run.Event.{Event}
 use Rattle.layer_mean.specs.Event.{event_of}
 use Rattle.layer_mean.specs.Tree.{LayerTree}
@@ -24,8 +24,7 @@ use Rattle.packet_mean.specs.Plan.{kind_of}
 use Rattle.stack_mean.specs.Plan.{Plan}
 use Rattle.packet_mean.specs.Received.{received}
 use Rattle.packet_mean.specs.declared.here.Here.{Here}
-use Rattle.msg_core.specs.View.{member_count, rank}
-use Rattle.run_mean.specs.View.{next_view}
+use Rattle.msg_core.specs.View.{member_count, rank, next_view}
 
 -- A member is in a view, with the states of its layers, lowest first, or it is out.
 pub data Member : Type 0 where
@@ -77,10 +76,11 @@ entered_input stack plans here leave = Ok app_leave
 entered_input stack plans here (tick moment) = Ok (clock_tick moment)
 entered_input stack plans here (datagram bytes) = from_datagram (received stack plans here bytes)
 
--- A task at the top of the stack, going down, and one at the lowest place, going up.
+-- An event of a kind at the highest place of the stack, going down, with these numbers and this message, if any.
 abbrev pub from_above : List LayerTree → Kind → List ℕ → Option Content → Task Event
 from_above stack what numbers message = record { at = length stack; dir = Down; event = event_of what numbers message }
 
+-- An event of a kind at the lowest place, going up, with these numbers and this message, if any.
 abbrev pub from_below : Kind → List ℕ → Option Content → Task Event
 from_below what numbers message = record { at = 1; dir = Up; event = event_of what numbers message }
 
@@ -124,7 +124,7 @@ packet_to here dest e = record {
 abbrev pub is_other : Here → ℕ → Output → Output
 is_other here peer sent = if nat_lt peer (member_count here.view) && not (peer == here.rank) then sent else nowhere
 
--- What an event is at the upper edge, and at the lower one.
+-- What an event of a kind is at the upper edge: a delivery, a block or an announced view, and any other is quiet.
 abbrev pub above : Kind → Event → Output
 above kind.Cast e = deliver_cast e.peer (content e).body
 above kind.Send e = deliver_send e.peer (content e).body
@@ -132,21 +132,25 @@ above kind.Block e = block e.a
 above kind.View e = announce e.a
 above _ e = quiet Up e
 
+-- What an event of a kind is at the lower edge: a packet to all or to another rank, a send that has nowhere to go, or a
+-- request for a timer, and any other is quiet.
 abbrev pub below : Here → Kind → Event → Output
 below here kind.Cast e = packet (packet_to here All e)
 below here kind.Send e = is_other here e.peer (packet (packet_to here (Rank e.peer) e))
 below here kind.Timer e = timer e.a
 below here _ e = quiet Down e
 
+-- The output that an event is, by the edge at which it leaves: going up it leaves at the upper one.
 abbrev pub output_of : Here → Dir × Event → Output
 output_of here (Up, e) = above e.kind e
 output_of here (Down, e) = below here e.kind e
 
--- The ranks that an output announces for a view, and the packet that it sends.
+-- The ranks that an output announces for a view, as the bits of a number, if it announces one.
 abbrev pub announced_ranks : Output → Option ℕ
 announced_ranks (announce ranks) = Some ranks
 announced_ranks _ = None
 
+-- The packet that an output sends, if it sends one.
 abbrev pub packet_in : Output → Option Packet
 packet_in (packet p) = Some p
 packet_in _ = None

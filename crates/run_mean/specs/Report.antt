@@ -46,10 +46,11 @@ lines_of_outputs stack annex id k [] = []
 lines_of_outputs stack annex id k (o ∷ outputs) =
     output_lines stack id k o.0 ++ annex k o ++ lines_of_outputs stack annex id (number_following k o.0) outputs
 
--- Nothing, or the line with the bytes of a packet as it is sent.
+-- Nothing follows the lines of an output.
 abbrev pub no_annex : Annex
 no_annex k o = []
 
+-- After a packet's line, the line with its bytes as they are sent; after any other output nothing.
 abbrev pub wire_annex : List Plan → Annex
 wire_annex plans k (packet p, plan) = wire_line k (wire plans p plan) ∷ []
 wire_annex plans k (_, plan) = []
@@ -64,11 +65,12 @@ abbrev pub installed_line : ℕ → Member → List ℕ
 installed_line id (inside view states) = view_line (codes "view") id view
 installed_line id out = out_line id
 
--- The lines of a cell, and those of all cells of a member, by place and in the order of their declarations.
+-- The lines of a cell of a member: one for a cell of numbers or a queue, and one for each queue of an array.
 abbrev pub cell_lines : List LayerTree → ℕ → ℕ → LayerTree → State → ℕ × CellTree → List (List ℕ)
 cell_lines stack id place layer s c =
     map (λ x. cell_line id place layer x.0 x.1) (cell_values stack c.1.name c.1.form (cell_at s c.0))
 
+-- The lines of the cells of the layer at a place of a member, in the order of their declarations.
 abbrev pub layer_lines : List LayerTree → ℕ → List State → ℕ × LayerTree → List (List ℕ)
 layer_lines stack id states l = flat_map
     (cell_lines stack id l.0 l.1 (slice_index_or states l.0 no_state))
@@ -119,10 +121,12 @@ abbrev pub visit_count : Mode → List LayerTree → List Plan → Step → ℕ
 visit_count layered stack plans s = s.work.visits
 visit_count bypass stack plans s = if is_common stack plans s then 0 else s.work.visits
 
+-- How many visits what an event gave counts for in a mode: those of a step, and none for anything else.
 abbrev pub visits_in : Mode → List LayerTree → List Plan → Did → ℕ
 visits_in mode stack plans (taken s) = visit_count mode stack plans s
 visits_in mode stack plans _ = 0
 
+-- How many visits a moment counts for in a mode.
 abbrev pub visits_of : Mode → List LayerTree → List Plan → Moment → ℕ
 visits_of mode stack plans m = visits_in mode stack plans m.happening.did
 
@@ -130,10 +134,11 @@ visits_of mode stack plans m = visits_in mode stack plans m.happening.did
 abbrev pub run_of : List LayerTree → List Plan → Script → List Moment
 run_of stack plans s = moments stack plans (first_world stack s.group s.stamp s.members) s.events
 
--- The last line, `end N`, of N events; and `visits V`.
+-- `end N`, the last line of a report: there were N events.
 abbrev pub end_line : ℕ → List ℕ
 end_line n = line (codes "end" ∷ decimal n ∷ [])
 
+-- `visits V`: the layers were visited V times.
 abbrev pub visits_line : ℕ → List ℕ
 visits_line v = line (codes "visits" ∷ decimal v ∷ [])
 

@@ -13,8 +13,7 @@ use Rattle.script_mean.specs.declared.event.ScriptEvent.TheVariants as script
 use Rattle.stack_mean.specs.Plan.{Plan}
 use Rattle.packet_mean.specs.Spelling.{full_bytes}
 use Rattle.packet_mean.specs.declared.here.Here.{Here}
-use Rattle.msg_core.specs.View.{rank}
-use Rattle.run_mean.specs.View.{first_view}
+use Rattle.msg_core.specs.View.{rank, first_view}
 use Rattle.run_mean.specs.Member.{Member, inside, out, opened_member, Input, cast, send, leave, tick, datagram, Refusal}
 use Rattle.run_mean.specs.Member.{is_out, Entered, entered_input, Step, step_from, member_following, packet_in}
 
@@ -35,6 +34,7 @@ first_world stack group stamp n = record {
   packets = [];
 }
 
+-- The member of this id; an id that no member has is out.
 abbrev pub member_at : World → ℕ → Member
 member_at w id = slice_index_or w.members id out
 
@@ -50,10 +50,12 @@ pub data Did : Type 0 where
   absent : Did
   shown : Did
 
+-- What comes of an event: the world after it, and what it gave.
 pub record Happening : Type 0 where
   pub world : World
   pub did : Did
 
+-- An event that gave this, and after which the world is as it was.
 abbrev pub only : World → Did → Happening
 only w did = record { world = w; did = did }
 
@@ -82,6 +84,7 @@ stepped_of stack plans w id input out = only w (refused is_out)
 stepped_of stack plans w id input (inside view states) =
     stepped_inside stack w id view states (entered_input stack plans (here_of w view id) input)
 
+-- What an input gives at the member of this id.
 abbrev pub step_happening : List LayerTree → List Plan → World → ℕ → Input → Happening
 step_happening stack plans w id input = stepped_of stack plans w id input (member_at w id)
 

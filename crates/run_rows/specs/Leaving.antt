@@ -1,7 +1,7 @@
 -- A layer that announces an empty view when its application leaves, and one that keeps numbers in a queue.
 use Rattle.std.specs.Prelude.{◌≡◌, [], ◌∷◌, ◌++◌, codes, None}
-use Rattle.layer_ast.specs.declared.tokens.Dir.TheVariants.{Up, Down}
-use Rattle.layer_ast.specs.declared.tokens.Kind.TheVariants as kind
+use Rattle.layer_words.specs.declared.events.Dir.TheVariants.{Up, Down}
+use Rattle.layer_words.specs.declared.events.Kind.TheVariants as kind
 use Rattle.layer_mean.specs.Tree.{number, emit, always, LayerTree}
 use Rattle.script_mean.specs.declared.event.ScriptEvent.TheVariants as script
 use Rattle.layer_rows.specs.Keeper.{keeper}

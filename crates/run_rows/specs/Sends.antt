@@ -1,7 +1,7 @@
 -- Sends through the counter layer, which has no handler for them, and a loop that is run and never drawn.
 use Rattle.std.specs.Prelude.{◌≡◌, true, List, [], ◌∷◌, ◌++◌, codes}
-use Rattle.layer_ast.specs.declared.tokens.Dir.TheVariants.{Down}
-use Rattle.layer_ast.specs.declared.tokens.Kind.TheVariants.{Cast}
+use Rattle.layer_words.specs.declared.events.Dir.TheVariants.{Down}
+use Rattle.layer_words.specs.declared.events.Kind.TheVariants.{Cast}
 use Rattle.layer_mean.specs.Tree.{number, local, each, emit, always, LayerTree}
 use Rattle.script_mean.specs.declared.event.ScriptEvent.{ScriptEvent}
 use Rattle.script_mean.specs.declared.event.ScriptEvent.TheVariants as script

@@ -1,7 +1,7 @@
 //! `runchart`: draws a picture of a run from its report.
 #![tactic(auto)]
 
-use run_chart::program;
+use chart_draw::program;
 use std::process::ExitCode;
 
 fn main(rt: HostRuntime) -> ExitCode {

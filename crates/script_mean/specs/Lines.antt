@@ -15,10 +15,11 @@ lines_of text = slice_split is_line_feed text
 abbrev pub line_count : List ℕ → ℕ
 line_count text = count_by is_line_feed text + (if length (after_last is_line_feed text) == 0 then 0 else 1)
 
--- how many bytes and lines a script has at most
+-- how many bytes a script has at most
 abbrev pub longest_script : ℕ
 longest_script = 4194304
 
+-- how many lines a script has at most
 abbrev pub most_lines : ℕ
 most_lines = 100000
 

@@ -18,12 +18,14 @@ impl Model for Bytes {
 }
 
 impl Bytes {
+    /// These bytes, in the memory in which they are.
     pub fn of(bytes: Vec<u8>) -> Bytes
         ensures { result ≡ bytes.items }
     {
         Bytes { bytes }
     }
 
+    /// The bytes, in order.
     pub fn slice(&self) -> &[u8]
         ensures { result.now ≡ self.now }
     {

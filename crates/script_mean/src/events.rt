@@ -20,12 +20,14 @@ impl Model for Events {
 }
 
 impl Events {
+    /// These events in order, in the memory in which they are.
     pub fn of(events: Vec<ScriptEvent>) -> Events
         ensures { result ≡ events.items }
     {
         Events { events }
     }
 
+    /// The events, in order.
     pub fn slice(&self) -> &[ScriptEvent]
         ensures { result.now ≡ self.now }
     {

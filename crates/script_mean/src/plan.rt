@@ -21,12 +21,14 @@ impl Model for Peers {
 }
 
 impl Peers {
+    /// Where the members of ids 0, 1 and so on are reached.
     pub fn of(peers: Vec<Peer>) -> Peers
         ensures { result ≡ peers.items }
     {
         Peers { peers }
     }
 
+    /// Where members are reached, that of id 0 first.
     pub fn slice(&self) -> &[Peer]
         ensures { result.now ≡ self.now }
     {
@@ -50,12 +52,14 @@ impl Model for Turns {
 }
 
 impl Turns {
+    /// These events in order, each with its turn, in the memory in which they are.
     pub fn of(turns: Vec<(u32, ScriptEvent)>) -> Turns
         ensures { result ≡ turns.items }
     {
         Turns { turns }
     }
 
+    /// The events with their turns, in order.
     pub fn slice(&self) -> &[(u32, ScriptEvent)]
         ensures { result.now ≡ self.now }
     {

@@ -9,7 +9,7 @@ abbrev pub Makes : {A : Type 0} → A × ℕ → Result A AllocError → ℕ →
 Makes made (Ok value) seed = made ≡ (value, seed)
 Makes made (Err error) seed = Unit {0}
 
--- the same of an event, with the cursors after it
+-- the event that was made, with the cursors and the seed after it; want of memory says nothing
 abbrev pub MakesEvent : (ScriptEvent × List ℕ) × ℕ → Result ScriptEvent AllocError → Maker → Type 0
 MakesEvent made (Ok event) following = made ≡ ((event, following.cursors.items), following.seed.value)
 MakesEvent made (Err error) following = Unit {0}

@@ -67,7 +67,7 @@ Takes taken (Err Memory) following = Unit {0}
 abbrev pub Says : {A : Type 0} → Option (A × List Word) → Result A LineError → Type 0
 Says taken result = Spells (option_map (λ t. t.0) taken) result
 
--- the same of an event, whose member is then judged
+-- what a form said of an event, whose member is then judged, or memory was wanted
 abbrev pub IsEvent : ℕ → Option (ScriptEvent × List Word) → Result ScriptEvent LineError → Type 0
 IsEvent members taken (Ok event) = (option_map (λ t. t.0) taken ≡ Some event) × (member_of event < members)
 IsEvent members taken (Err Form) = taken ≡ None
@@ -81,7 +81,7 @@ IsBelow members number (Err Form) = ⊥
 IsBelow members number (Err NoMember) = members ≤ number
 IsBelow members number (Err Memory) = ⊥
 
--- the same of a request with its turn
+-- what a form said of a request with its turn, whose member is then judged, or memory was wanted
 abbrev pub IsTurn : ℕ → Option ((ℕ × ScriptEvent) × List Word) → Result (ℕ × ScriptEvent) LineError → Type 0
 IsTurn members taken (Ok turn) = (option_map (λ t. t.0) taken ≡ Some turn) × (member_of turn.1 < members)
 IsTurn members taken (Err Form) = taken ≡ None

@@ -1,5 +1,5 @@
 //! Bodies and datagrams that are made from a seed.
-ghost use Rattle.std.specs.Prelude.{◌≡◌, ◌+◌, ◌%◌, ◌<◌, ◌≤◌, ◌-◌, ◌^◌, ◌++◌, map, IfOk};
+ghost use Rattle.std.specs.Prelude.{◌≡◌, ◌+◌, ◌%◌, ◌<◌, ◌≤◌, ◌++◌, map, IfOk};
 ghost use Rattle.std.specs.List.{range_with_len};
 ghost use Rattle.script_mean.specs.Event.{member_of};
 ghost use Rattle.script_mean.specs.Generate as spec;
@@ -9,6 +9,7 @@ ghost use Rattle.msg_core.specs.View.{most_members};
 use crate::seed::Seed;
 use script_mean::{Bytes, ScriptEvent};
 use std::alloc::AllocError;
+use view_masks::all_of;
 
 /// Up to 63 bytes, which count up from the event's number, in the memory of a vector.
 pub(crate) fn body(memory: Vec<u8>, seed: &mut Seed, number: u32) -> Result<Bytes, AllocError>
@@ -66,14 +67,6 @@ fn preamble(memory: Vec<u8>, form: u32, members: u8, sender: u8) -> Result<Vec<u
     bytes.push(sender)?;
     bytes.push(255)?;
     Ok(bytes)
-}
-
-/// The mask of a view of all members.
-fn all_of(members: u8) -> u32
-    requires { members ≤ most_members }
-    ensures { result ≡ 2 ^ members - 1 }
-{
-    (2_u64.pow(u32::from(members)) - 1) as u32
 }
 
 /// Adds `count` bytes below 4.

@@ -19,7 +19,7 @@ pub(crate) fn group_line(line: NumberedLine<'_>) -> Result<GroupLine, ScriptErro
     ensures said { Answers (in_form line.entry.number (spec.said_by spec.group_line line.entry.text.now)) result }
     ensures bounds { IfOk result (λ said. (1 ≤ said.members) × (said.members ≤ most_members)) }
 {
-    match group(Words::on(line.text)) {
+    match group(Words::new(line.text)) {
         Ok(group_line) => Ok(group_line),
         Err(error) => Err(error.at(line.number)),
     }
@@ -64,12 +64,12 @@ fn event(alloc: Global, members: u8, line: &[u8]) -> Result<ScriptEvent, LineErr
     ensures { IsEvent members (spec.event_line (words_of line.now)) result }
 {
     if let [b'g', b'i', b'v', b'e', b' ', following @ ..] = line {
-        return give(members, Words::on(following));
+        return give(members, Words::new(following));
     }
     if let [b'c', b'a', b's', b't', b' ', following @ ..] = line {
-        return cast(alloc, members, Words::on(following));
+        return cast(alloc, members, Words::new(following));
     }
-    any_event(alloc, members, Words::on(line))
+    any_event(alloc, members, Words::new(line))
 }
 
 /// The event of a line by its first word, whichever that is.
@@ -97,6 +97,7 @@ fn any_event(alloc: Global, members: u8, mut words: Words<'_>) -> Result<ScriptE
     }
 }
 
+/// The cast that a line asks for, from the words after its first: a member and a body.
 pub(crate) fn cast(
     alloc: Global,
     members: u8,
@@ -110,6 +111,7 @@ pub(crate) fn cast(
     Ok(ScriptEvent::Cast(member_below(members, member)?, body))
 }
 
+/// The send that a line asks for, from the words after its first: a member, the rank that it goes to, and a body.
 pub(crate) fn send(
     alloc: Global,
     members: u8,
@@ -124,6 +126,7 @@ pub(crate) fn send(
     Ok(ScriptEvent::Send(member_below(members, member)?, rank, body))
 }
 
+/// The leave that a line asks for, from the word after its first: a member.
 pub(crate) fn leave(members: u8, mut words: Words<'_>) -> Result<ScriptEvent, LineError>
     ensures { IsEvent members (spec.leave_line (words_left words.entry)) result }
 {

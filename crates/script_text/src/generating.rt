@@ -45,7 +45,7 @@ impl Model for Generation {
 
 impl Generation {
     /// The script of a workload of 1 to 32 members and at most 2,147,483,647 events, of which none is made yet.
-    pub fn begin(alloc: Global, workload: Workload) -> Result<Generation, AllocError>
+    pub fn new(alloc: Global, workload: Workload) -> Result<Generation, AllocError>
         requires members { (1 ≤ workload.members) × (workload.members ≤ most_members) }
         requires few { workload.events ≤ 2147483647 }
         ensures { IfOk result (λ script. script ≡ record { workload = workload; made = 0 }) }

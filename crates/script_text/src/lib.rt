@@ -20,6 +20,6 @@ mod words;
 pub use crate::error::ScriptError;
 pub use crate::generating::{Generation, Workload};
 pub use crate::plan::read_plan;
-pub use crate::reading::read_script;
+pub use crate::reading::{LONGEST_SCRIPT, read_script};
 pub use crate::splits::cut;
-pub use crate::values::number_within;
+pub use crate::values::{MOST_DIGITS, number_within};

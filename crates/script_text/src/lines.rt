@@ -30,6 +30,7 @@ impl<'a> Lines<'a> {
     ghost use Rattle.std.specs.Iterator.{YieldsFirstBy};
     ghost use Rattle.script_text.specs.Reading.{all_left, lines_left, numbered_line};
 
+    /// All lines of a text, counted from 1.
     pub(crate) fn of(text: &'a [u8]) -> Lines<'a>
         requires { spec.line_count text.now ≤ MOST_LINES }
         ensures { lines_left result ≡ spec.said_lines text.now }

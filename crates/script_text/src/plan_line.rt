@@ -19,7 +19,7 @@ use std::alloc::Global;
 pub(crate) fn peer_on(member: u8, line: NumberedLine<'_>) -> Result<Peer, ScriptError>
     ensures { Answers (in_form line.entry.number (event.said_by (spec.peer_line member) line.entry.text.now)) result }
 {
-    match peer(member, Words::on(line.text)) {
+    match peer(member, Words::new(line.text)) {
         Ok(peer) => Ok(peer),
         Err(error) => Err(error.at(line.number)),
     }
@@ -45,7 +45,7 @@ pub(crate) fn turn_on(
     ensures said { Answers (turn_of members earliest (numbered_line line.entry)) result }
     ensures of_member { IfOk result (λ turn. event.member_of turn.1 < members) }
 {
-    match turn(alloc, members, earliest, Words::on(line.text)) {
+    match turn(alloc, members, earliest, Words::new(line.text)) {
         Ok(turn) => Ok(turn),
         Err(error) => Err(error.at(line.number)),
     }

@@ -11,8 +11,8 @@ use crate::lines::{Lines, line_count};
 use script_mean::{Events, Script};
 use std::alloc::Global;
 
-/// The most bytes of a script.
-pub(crate) const LONGEST_SCRIPT: usize = 4_194_304;
+/// The most bytes of a script or a plan.
+pub const LONGEST_SCRIPT: usize = 4_194_304;
 
 /// The most lines of a script.
 pub(crate) const MOST_LINES: usize = 100_000;

@@ -20,14 +20,16 @@ pub fn cut(at: u8, text: &[u8]) -> (&[u8], Option<&[u8]>)
     parted(at, text, memchr(at, text))
 }
 
-/// The same, faster where such a byte is most often near.
+/// The text before the first byte `at`, and what stands after that byte, if there is one; faster than `cut` where such
+/// a byte is most often near.
 pub(crate) fn cut_near(at: u8, text: &[u8]) -> (&[u8], Option<&[u8]>)
     ensures { slice_split (λ byte. byte == at) text.now ≡ result.0.now ∷ parts_after at result.1 }
 {
     parted(at, text, first_near(at, text))
 }
 
-/// The same, faster where such a byte is often among the first 16.
+/// The text before the first byte `at`, and what stands after that byte, if there is one; faster than `cut` where such
+/// a byte is often among the first 16.
 #[inline(always)]
 pub(crate) fn cut_before(at: u8, text: &[u8]) -> (&[u8], Option<&[u8]>)
     ensures { slice_split (λ byte. byte == at) text.now ≡ result.0.now ∷ parts_after at result.1 }

@@ -15,7 +15,7 @@ use script_mean::Bytes;
 use std::alloc::{AllocError, Global};
 
 /// The most digits of a body: two for each of 65,507 bytes.
-const MOST_DIGITS: usize = 131_014;
+pub const MOST_DIGITS: usize = 131_014;
 
 /// The most digits whose value has 32 bits, whatever they are.
 const MOST_PLACES: usize = 9;

@@ -33,12 +33,14 @@ fn any_number_within(low: u32, high: u32, text: &[u8]) -> (Result<u32, LineError
 }
 
 impl<'a> Words<'a> {
-    pub(crate) fn on(line: &'a [u8]) -> Words<'a>
+    /// All words of a line.
+    pub(crate) fn new(line: &'a [u8]) -> Words<'a>
         ensures { words_left result ≡ words_of line.now }
     {
         Words { rest: Some(line) }
     }
 
+    /// Takes the next word, which has to be this one.
     pub(crate) fn the_word(&mut self, wanted: &[u8]) -> Result<(), LineError>
         ensures { Takes (form.the_word wanted.now (words_left self.old)) result (words_left self.new) }
     {
@@ -48,6 +50,7 @@ impl<'a> Words<'a> {
         }
     }
 
+    /// Takes the next word, which has to be a number within these bounds.
     #[inline(always)]
     pub(crate) fn number_within(&mut self, low: u32, high: u32) -> Result<u32, LineError>
         ensures { Takes (form.a_number_within low high (words_left self.old)) result (words_left self.new) }
@@ -63,12 +66,14 @@ impl<'a> Words<'a> {
         values::valued_within(low, high, word, value).ok_or(LineError::Form)
     }
 
+    /// Takes the next word, which has to be a number of 32 bits.
     pub(crate) fn number(&mut self) -> Result<u32, LineError>
         ensures { Takes (form.a_number (words_left self.old)) result (words_left self.new) }
     {
         self.number_within(0, u32::MAX)
     }
 
+    /// Takes the next word, which has to spell a body, and gives the bytes that it spells.
     pub(crate) fn body(&mut self, alloc: Global) -> Result<Bytes, LineError>
         ensures { Takes (form.a_body (words_left self.old)) result (words_left self.new) }
     {
@@ -82,6 +87,7 @@ impl<'a> Words<'a> {
         values::body(alloc, word)
     }
 
+    /// Takes the next word, which has to be an address and a port.
     pub(crate) fn peer(&mut self) -> Result<Peer, LineError>
         ensures { Takes (form.one peer_of (words_left self.old)) result (words_left self.new) }
     {
@@ -89,6 +95,7 @@ impl<'a> Words<'a> {
         address::peer_of(word).ok_or(LineError::Form)
     }
 
+    /// Succeeds where no word is left.
     #[inline(always)]
     pub(crate) fn end(&mut self) -> Result<(), LineError>
         ensures { Takes (form.ends tt (words_left self.old)) result (words_left self.new) }

@@ -2,8 +2,8 @@
 -- visit says, and beside it what is counted and whether a condition with two predicted ways was met, also where it
 -- stops.
 use Rattle.std.specs.Prelude.{ℕ, ◌+◌, Bool, true, List, [], ◌∷◌, ◌++◌, length, map, Option, Some, Result, Ok, Err}
-use Rattle.layer_ast.specs.declared.tokens.Dir.{Dir}
-use Rattle.layer_ast.specs.declared.tokens.Kind.{Kind}
+use Rattle.layer_words.specs.declared.events.Dir.{Dir}
+use Rattle.layer_words.specs.declared.events.Kind.{Kind}
 use Rattle.layer_mean.specs.Tree.{EmissionTree}
 use Rattle.layer_mean.specs.Way.{Step, fork, put, get, send, loop, weight_of}
 use Rattle.layer_mean.specs.Marked.{Marked}

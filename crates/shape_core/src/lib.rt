@@ -15,4 +15,5 @@ mod walk;
 pub use absent::Absent;
 pub use draw::shapes;
 pub use header::DrawnHeader;
+pub use sketch::MOST_VISITS;
 pub use types::{CaseShapes, Known, Shape, ShapeOut, ShapeVisit, Source};

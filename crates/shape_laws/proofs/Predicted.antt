@@ -2,8 +2,8 @@
 use Rattle.std.proofs.Common.{◌≡◌, ℕ, Bool, true, false, List, [], ◌∷◌, ◌++◌, Option, Some, None, refl, sym, ap, ◌∙◌}
 use Rattle.std.specs.Prelude.{if◌then◌else◌}
 use Rattle.std.specs.List.{fold}
-use Rattle.layer_ast.specs.declared.tokens.Dir.{Dir}
-use Rattle.layer_ast.specs.declared.syntax.Likely.TheVariants as likely
+use Rattle.layer_words.specs.declared.events.Dir.{Dir}
+use Rattle.layer_words.specs.declared.sorts.Likely.TheVariants as likely
 use Rattle.layer_mean.specs.declared.run.Case.{Case}
 use Rattle.layer_mean.specs.declared.run.Case.TheVariants.{First, Second}
 use Rattle.layer_mean.specs.declared.run.Event.{Event}

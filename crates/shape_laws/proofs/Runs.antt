@@ -4,7 +4,7 @@ use Rattle.std.proofs.Common.{sym, ap, subst}
 use Rattle.std.specs.Prelude.{if◌then◌else◌, nat_lt, length, Result, Ok, Err}
 use Rattle.std.specs.List.{enumerate_from}
 use Rattle.layer_mean.specs.Effect.{all_as}
-use Rattle.layer_ast.specs.declared.tokens.Dir.{Dir}
+use Rattle.layer_words.specs.declared.events.Dir.{Dir}
 use Rattle.layer_mean.specs.declared.run.Case.{Case}
 use Rattle.layer_mean.specs.declared.run.Event.{Event}
 use Rattle.layer_mean.specs.Tree.{LayerTree}

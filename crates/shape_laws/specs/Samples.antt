@@ -1,10 +1,10 @@
 -- A run, played and drawn.
 use Rattle.std.specs.Prelude.{◌≡◌, ℕ, ◌-◌, Option, true, false, List, [], ◌∷◌, map, Some, None, codes, Ok}
 use Rattle.std.specs.List.{list_all}
-use Rattle.layer_ast.specs.declared.tokens.Dir.TheVariants.{Up, Down}
-use Rattle.layer_ast.specs.declared.tokens.Dir.{Dir}
-use Rattle.layer_ast.specs.declared.tokens.Kind.{Kind}
-use Rattle.layer_ast.specs.declared.tokens.Kind.TheVariants.{Cast}
+use Rattle.layer_words.specs.declared.events.Dir.TheVariants.{Up, Down}
+use Rattle.layer_words.specs.declared.events.Dir.{Dir}
+use Rattle.layer_words.specs.declared.events.Kind.{Kind}
+use Rattle.layer_words.specs.declared.events.Kind.TheVariants.{Cast}
 use Rattle.layer_mean.specs.Marked.{Source, Logged}
 use Rattle.stack_mean.specs.Shape.{ShapeVisit}
 use Rattle.layer_mean.specs.declared.run.Case.{Case}

@@ -42,6 +42,7 @@ impl Row {
         })
     }
 
+    /// How many places were used so far, the free ones among them included.
     #[tactic(auto, using(crate::proofs::Spots::length_joined))]
     pub(crate) fn len(&self) -> usize
         ensures { result ≡ length self.now.values }
@@ -82,6 +83,7 @@ impl Row {
         }
     }
 
+    /// Adds a reference to the body in the place at `index`.
     pub(crate) fn add_reference(&mut self, index: usize)
         requires there { index < length self.old.values }
         requires few { (spot_at self.old.values index).count < 4294967295 }
@@ -138,7 +140,7 @@ impl Row {
         ensures { Adds self.old self.new body.now }
     {
         let last = self.block.len();
-        self.block.push(SlotRecord::fresh());
+        self.block.push(SlotRecord::new());
         self.hold(last, body);
     }
 }

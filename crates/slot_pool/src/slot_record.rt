@@ -19,7 +19,7 @@ pub struct SlotRecord {
 
 impl SlotRecord {
     /// A place that was never used.
-    pub(crate) fn fresh() -> SlotRecord
+    pub(crate) fn new() -> SlotRecord
         ensures { result.len ≡ 0 }
     {
         SlotRecord {
@@ -50,6 +50,7 @@ impl SlotRecord {
         self.len = len;
     }
 
+    /// Adds a reference to the body in this place.
     pub(crate) fn add_reference(&mut self)
         requires { self.old.count < 4294967295 }
         ensures { self.new ≡ record self.old { count = self.old.count + 1 } }

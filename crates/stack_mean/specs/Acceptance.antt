@@ -4,9 +4,9 @@ use Rattle.std.specs.Prelude.{ℕ, zero, suc, ◌+◌, ◌*◌, ◌-◌, nat_lt,
 use Rattle.std.specs.Prelude.{length, Option, Some, None, Result, Ok, Err}
 use Rattle.std.specs.List.{sum_by}
 use Rattle.std.specs.Option.{option_map_or}
-use Rattle.layer_ast.specs.declared.tokens.Dir.TheVariants.{Up, Down}
-use Rattle.layer_ast.specs.declared.tokens.Kind.{Kind}
-use Rattle.layer_ast.specs.declared.tokens.Kind.TheVariants.{Cast, Send, Timer, Leave}
+use Rattle.layer_words.specs.declared.events.Dir.TheVariants.{Up, Down}
+use Rattle.layer_words.specs.declared.events.Kind.{Kind}
+use Rattle.layer_words.specs.declared.events.Kind.TheVariants.{Cast, Send, Timer, Leave}
 use Rattle.layer_mean.specs.Tree.{Form, numbers, queue, queues, ItemsTree, LayerTree}
 use Rattle.layer_mean.specs.Queue.{is_place}
 use Rattle.stack_mean.specs.Emissions.{handler_joins}
@@ -23,7 +23,8 @@ cost_in zero stack own node = own node
 cost_in (suc steps) stack own node =
     own node + sum_by (λ arrow. arrow.times * largest (map (cost_in steps stack own) arrow.targets)) (arrows stack node)
 
--- The same in as many steps as there are nodes, which is enough where no node lies on a cycle.
+-- The most that a node and all that follows from it may cost, in as many steps as there are nodes, which is enough
+-- where no node lies on a cycle.
 abbrev pub cost : List LayerTree → (Node → ℕ) → Node → ℕ
 cost stack own node = cost_in (length (nodes stack)) stack own node
 
@@ -75,6 +76,8 @@ pub data Refusal : Type 0 where
 abbrev pub held_at_most : ℕ → ℕ
 held_at_most n = min n 4294967295
 
+-- The judgement of a stack whose first node on a cycle is this, if it has one: refused for the cycle, for the weight of
+-- its heaviest entry or for too many joins, in this order, and else accepted.
 abbrev pub without_cycle : List LayerTree → Option Node → Result (List LayerTree) Refusal
 without_cycle stack (Some node) = Err (cycle (node.at - 1) node.kind)
 without_cycle stack None =
@@ -87,10 +90,11 @@ without_cycle stack None =
 abbrev pub acceptance : List LayerTree → Result (List LayerTree) Refusal
 acceptance stack = without_cycle stack (first_on_cycle stack)
 
--- The most rows with messages that a cell keeps, at a member of a view of n.
+-- How many rows with messages a queue of a capacity keeps at most: none, if its rows carry no message.
 abbrev pub capacity_for : ItemsTree → ℕ → ℕ
 capacity_for items capacity = option_map_or (λ carried. capacity) items.message 0
 
+-- How many rows with messages a cell of a form keeps at most, at a member of a view of n.
 abbrev pub message_rows : ℕ → Form → ℕ
 message_rows n (numbers shape initial) = 0
 message_rows n (queue capacity items) = capacity_for items capacity

@@ -1,10 +1,10 @@
 -- Cases at the edges of what is accepted and drawn.
 use Rattle.std.specs.Prelude.{◌≡◌, true, List, [], ◌∷◌, ◌++◌, map, replicate, Some, None, Ok, Err, codes}
-use Rattle.layer_ast.specs.declared.tokens.Dir.{Dir}
-use Rattle.layer_ast.specs.declared.tokens.Dir.TheVariants.{Up, Down}
-use Rattle.layer_ast.specs.declared.tokens.Kind.TheVariants.{Cast, Send, Ack}
-use Rattle.layer_ast.specs.declared.syntax.Function.TheVariants.{Bit}
-use Rattle.layer_ast.specs.declared.syntax.Operator.TheVariants.{Add, Subtract, Multiply}
+use Rattle.layer_words.specs.declared.events.Dir.{Dir}
+use Rattle.layer_words.specs.declared.events.Dir.TheVariants.{Up, Down}
+use Rattle.layer_words.specs.declared.events.Kind.TheVariants.{Cast, Send, Ack}
+use Rattle.layer_words.specs.declared.operators.Function.TheVariants.{Bit}
+use Rattle.layer_words.specs.declared.operators.Operator.TheVariants.{Add, Subtract, Multiply}
 use Rattle.layer_mean.specs.declared.run.Case.TheVariants.{First}
 use Rattle.layer_mean.specs.Tree.{part, ExpressionTree, number, me, local, size, binary, apply, pick, MessageTree}
 use Rattle.layer_mean.specs.Tree.{message, held, cut, tail, join, StatementTree, push, take, each, emit, none, always}
@@ -18,13 +18,15 @@ use Rattle.stack_mean.specs.SampleLayers.{echo}
 use Rattle.stack_mean.specs.SampleLayers.{fan, silent_layer}
 use Rattle.stack_mean.specs.Samples.{header, length_of}
 
--- An Ack is sent back where it came from.
+-- An Ack with the numbers of the one that came, sent in a direction.
 abbrev pub acks : Dir → StatementTree
 acks dir = emit (record { direction = dir; kind = Ack; numbers = local 0 ∷ local 1 ∷ []; content = None })
 
+-- A layer that sends each Ack back where it came from.
 abbrev pub ack_echo : LayerTree
 ack_echo = bare_layer (codes "acks") (on Down Ack 0 always (acks Up ∷ []) ∷ on Up Ack 0 always (acks Down ∷ []) ∷ [])
 
+-- A layer that sends each Ack and each cast back where it came from.
 abbrev pub two_echoes_at_once : LayerTree
 two_echoes_at_once = bare_layer (codes "both") (ack_echo.handlers ++ echo.handlers)
 
@@ -39,17 +41,19 @@ UnreachedCycles =
 abbrev pub HugeWeight : Type 0
 HugeWeight = acceptance (replicate 9 fan) ≡ Err (too_many 4294967295)
 
--- Rare handlers count, and so do joins in the condition of a common case.
+-- A layer with a rare handler that sends a cast up eight times, and with a common case whose condition makes a join.
 abbrev pub rarely : LayerTree
 rarely = bare_layer (codes "rarely")
     (on Up Cast 0 rare (each 1 (number 8) 8 (block (sends Up Cast (local 0) (message 0) 0 [] ∷ [])) ∷ []) ∷
     on Down Cast 0 (common (size (join (message 0) (message 0)))) (sends Down Cast (local 0) (message 0) 0 [] ∷ []) ∷
     [])
 
+-- Rare handlers count, and so do joins in the condition of a common case.
 abbrev pub AllCounts : Type 0
 AllCounts = (largest_weight (rarely ∷ []) ≡ 9) × (largest_joins (rarely ∷ rarely ∷ []) ≡ 2)
 
--- Fields that are written with numbers alone are constant, others vary, even where they give one number.
+-- Four fields: a computation with numbers alone, a difference that is always 0 but is made of a local, and two choices,
+-- of which the first has `me` where it isn't chosen.
 abbrev pub constant_fields : List ExpressionTree
 constant_fields =
     binary Add (binary Multiply (number 2) (number 3)) (apply Bit (number 3)) ∷
@@ -57,6 +61,7 @@ constant_fields =
     pick (number 1) (number 2) me ∷
     pick (number 0) (number 5) (number 6) ∷ []
 
+-- A layer that sends each cast down with a header of the four fields `constant_fields`.
 abbrev pub constant_layer : LayerTree
 constant_layer = record {
   name = codes "fixed";
@@ -65,6 +70,7 @@ constant_layer = record {
   handlers = on Down Cast 0 always (sends Down Cast (local 0) (message 0) 1 constant_fields ∷ []) ∷ [];
 }
 
+-- Fields that are written with numbers alone are constant, others vary, even where they give one number.
 abbrev pub ConstantFields : Type 0
 ConstantFields = map (λ out. out.headers) (outs_of (shape (constant_layer ∷ []) app_cast First)) ≡
     (header 1 (Some 14 ∷ None ∷ None ∷ Some 6 ∷ []) ∷ []) ∷ []
@@ -97,6 +103,7 @@ sending m = record {
   handlers = on Down Cast 0 always (sends Down Cast (local 0) m 0 [] ∷ []) ∷ [];
 }
 
+-- The message of the front row of the queue `kept`.
 abbrev pub stored_first : MessageTree
 stored_first = held 0 (number 0) (number 0) kept_rows
 

@@ -2,9 +2,9 @@
 use Rattle.std.specs.Prelude.{ℕ, ◌==◌, Bool, true, false, if◌then◌else◌, List, [], ◌∷◌, ◌++◌, map, slice_index_or}
 use Rattle.std.specs.Prelude.{slice_set, Option, Some, None, option_map, option_to_list, Result, Ok, Err}
 use Rattle.std.specs.Option.{option_map_or, option_and_then}
-use Rattle.layer_ast.specs.declared.tokens.Dir.{Dir}
-use Rattle.layer_ast.specs.declared.tokens.Dir.TheVariants.{Up, Down}
-use Rattle.layer_ast.specs.declared.tokens.Kind.{Kind}
+use Rattle.layer_words.specs.declared.events.Dir.{Dir}
+use Rattle.layer_words.specs.declared.events.Dir.TheVariants.{Up, Down}
+use Rattle.layer_words.specs.declared.events.Kind.{Kind}
 use Rattle.layer_mean.specs.Tree.{Carried, part, whole, ExpressionTree, number, binary, apply, pick, MessageTree}
 use Rattle.layer_mean.specs.Tree.{message, nothing, held, cut, tail, join, ContentTree, EmissionTree, TakenTree}
 use Rattle.layer_mean.specs.Tree.{HandlerTree, LayerTree}
@@ -68,16 +68,18 @@ abbrev pub with_header : Dir → ContentTree → List DrawnHeader → List Drawn
 with_header Up c headers = headers
 with_header Down c headers = record { tag = c.tag; fields = map constant_of c.fields } ∷ headers
 
--- A message can be sent where its headers are known.
+-- The headers with which a message is sent from a place: it can be sent where its headers are known.
 abbrev pub sent_headers : ℕ → Dir → ContentTree → DrawnMessage → Result (Option (List DrawnHeader)) NoShape
 sent_headers place dir c (chained headers) = Ok (Some (with_header dir c headers))
 sent_headers place dir c unknown = Err (no_shape.stored place)
 
+-- The headers of what an emission sends, by the messages of the scope; without a message there are none.
 abbrev pub emission_headers : ℕ → Dir → List DrawnMessage → Option ContentTree →
     Result (Option (List DrawnHeader)) NoShape
 emission_headers place dir scope None = Ok None
 emission_headers place dir scope (Some c) = sent_headers place dir c (drawn_message scope c.message)
 
+-- A drawing with one more event sent, whose message has these headers.
 abbrev pub with_sent : Drawing → EmissionTree → Option (List DrawnHeader) → Drawing
 with_sent d e headers = record d { sent = d.sent ++ (e.direction, record { kind = e.kind; headers = headers }) ∷ [] }
 
@@ -98,11 +100,13 @@ abbrev pub draw_steps : ℕ → List Step → Drawing → Result Drawing NoShape
 draw_steps place [] d = Ok d
 draw_steps place (x ∷ xs) d = drawn_from (draw_steps place xs) (draw_step place x d)
 
--- Whether steps meet a condition with two predicted ways before they end or one of them can't be drawn.
+-- Whether what follows a drawn step meets a condition with two predicted ways; nothing does after a step that can't be
+-- drawn.
 abbrev pub forks_after : (Drawing → Bool) → Result Drawing NoShape → Bool
 forks_after go (Ok d) = go d
 forks_after go (Err reason) = false
 
+-- Whether steps meet a condition with two predicted ways before they end or one of them can't be drawn.
 abbrev pub steps_fork : ℕ → List Step → Drawing → Bool
 steps_fork place [] d = false
 steps_fork place (fork case e ∷ xs) d = true
@@ -119,10 +123,13 @@ pub record DrawnMet : Type 0 where
   pub tag : ℕ
   pub headers : Option (List DrawnHeader)
 
+-- A message with these headers as its layer meets it going up: the first one's tag, and the headers after it.
 abbrev pub popped_of : List DrawnHeader → DrawnMet
 popped_of [] = record { tag = 0; headers = Some [] }
 popped_of (h ∷ hs) = record { tag = h.tag; headers = Some hs }
 
+-- The message of an event, if it has one, as its layer meets it: going up its first header is popped; going down none
+-- is.
 abbrev pub drawn_met : Dir → Option (List DrawnHeader) → DrawnMet
 drawn_met dir None = record { tag = 0; headers = None }
 drawn_met Up (Some headers) = popped_of headers
@@ -151,6 +158,7 @@ drawn_way place None d = Err (no_shape.rare place)
 drawn_way place (Some steps) d =
     drawn_from (λ e. Ok (record { sent = e.sent; length = way_length steps })) (draw_steps place steps d)
 
+-- The predicted visit, in a case, of a layer that has this handler for the event, or none.
 abbrev pub drawn_handled : Case → ℕ → Option HandlerTree → Dir → DrawnEvent → DrawnMet → Result DrawnVisit NoShape
 drawn_handled case place None dir event m = drawn_unhandled place dir event m.tag m.headers
 drawn_handled case place (Some h) dir event m = drawn_way place (handler_way case h) (drawn_entered h m.headers)
@@ -160,15 +168,19 @@ abbrev pub drawn_visit : Case → ℕ → LayerTree → Dir → DrawnEvent → R
 drawn_visit case place layer dir event =
     let m = drawn_met dir event.headers in drawn_handled case place (handler_for layer dir event.kind m.tag) dir event m
 
--- Whether a visit's way in the first case meets a condition with two predicted ways before it ends or can't be drawn.
+-- Whether a handler's way, if it has one, meets a condition with two predicted ways before it ends or can't be drawn.
 abbrev pub way_forks : ℕ → Option (List Step) → Drawing → Bool
 way_forks place None d = false
 way_forks place (Some steps) d = steps_fork place steps d
 
+-- Whether this handler's way in the first case meets a condition with two predicted ways before it ends or can't be
+-- drawn; a missing handler meets none.
 abbrev pub handled_forks : ℕ → Option HandlerTree → DrawnMet → Bool
 handled_forks place None m = false
 handled_forks place (Some h) m = way_forks place (handler_way First h) (drawn_entered h m.headers)
 
+-- Whether the visit of an event, on its way in the first case, meets a condition with two predicted ways before it ends
+-- or can't be drawn.
 abbrev pub visit_forks : ℕ → LayerTree → Dir → DrawnEvent → Bool
 visit_forks place layer dir event =
     let m = drawn_met dir event.headers in handled_forks place (handler_for layer dir event.kind m.tag) m

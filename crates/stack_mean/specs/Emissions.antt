@@ -41,7 +41,7 @@ abbrev mutual
   joins_in (pick c a b) = joins_in c + joins_in a + joins_in b
   joins_in _ = 0
 
-  -- How often it is written in a message.
+  -- How often `join` is written in a message.
   pub joins_in_message : MessageTree → ℕ
   joins_in_message (held c i row carried) = joins_in i + joins_in row
   joins_in_message (cut m from length) = joins_in_message m + joins_in from + joins_in length
@@ -49,13 +49,15 @@ abbrev mutual
   joins_in_message (join p m) = 1 + joins_in_message p + joins_in_message m
   joins_in_message _ = 0
 
--- The joins of an emission's arguments, and of a row's parts.
+-- The joins of an emission's message and of its header's fields.
 abbrev pub joins_in_content : ContentTree → ℕ
 joins_in_content c = joins_in_message c.message + sum_by joins_in c.fields
 
+-- The joins of an emission: of its number arguments, its message and its header's fields.
 abbrev pub joins_in_emission : EmissionTree → ℕ
 joins_in_emission e = sum_by joins_in e.numbers + option_map_or joins_in_content e.content 0
 
+-- The joins of the parts of a row that is pushed.
 abbrev pub joins_in_row : RowTree → ℕ
 joins_in_row r = sum_by joins_in r.numbers + option_map_or joins_in_message r.message 0
 

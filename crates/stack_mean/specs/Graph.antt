@@ -3,12 +3,12 @@ use Rattle.std.specs.Prelude.{ℕ, zero, suc, ◌+◌, ◌==◌, Bool, false, �
 use Rattle.std.specs.Prelude.{length, Option, Some, None}
 use Rattle.std.specs.List.{find, flat_map, list_any, range_with_len}
 use denote.Enum.Bare.{sameb}
-use Rattle.layer_ast.specs.declared.tokens.Dir.{Dir}
-use Rattle.layer_ast.specs.declared.tokens.Dir.TheVariants.{Up, Down}
-use Rattle.layer_ast.specs.contracts.tokens.Dir as dir_row
-use Rattle.layer_ast.specs.declared.tokens.Kind.{Kind}
-use Rattle.layer_ast.specs.contracts.tokens.Kind as kind_row
-use Rattle.layer_ast.specs.Spelling.{kinds}
+use Rattle.layer_words.specs.declared.events.Dir.{Dir}
+use Rattle.layer_words.specs.declared.events.Dir.TheVariants.{Up, Down}
+use Rattle.layer_words.specs.contracts.events.Dir as dir_row
+use Rattle.layer_words.specs.declared.events.Kind.{Kind}
+use Rattle.layer_words.specs.contracts.events.Kind as kind_row
+use Rattle.layer_words.specs.Spelling.{kinds}
 use Rattle.layer_mean.specs.Event.{carries}
 use Rattle.layer_mean.specs.Tree.{MessageTree, message, tail, join, ContentTree, EmissionTree, HandlerTree, LayerTree}
 use Rattle.layer_mean.specs.Visit.{handler_for}
@@ -24,6 +24,7 @@ pub record Node : Type 0 where
   pub kind : Kind
   pub tag : ℕ
 
+-- Whether two nodes are the same: place, direction, kind and tag.
 abbrev pub same_node : Node → Node → Bool
 same_node a b = (a.at == b.at) && (a.tag == b.tag) && sameb dir_row.the_type a.dir b.dir &&
     sameb kind_row.the_type a.kind b.kind
@@ -41,6 +42,7 @@ abbrev pub header_layer : List LayerTree → Dir → ℕ → LayerTree
 header_layer stack Up at = layer_at stack at
 header_layer stack Down at = layer_at stack (at + 1)
 
+-- The nodes of events of a kind that go to a place in a direction: one for each tag that their messages can have there.
 abbrev pub nodes_of : List LayerTree → ℕ → Dir → Kind → List Node
 nodes_of stack at dir kind =
     map (λ tag. record { at = at; dir = dir; kind = kind; tag = tag }) (tags_for kind (header_layer stack dir at))
@@ -72,6 +74,7 @@ content_tags stack node Up c =
     if goes_down node.dir node.kind && keeps_headers c.message then node.tag ∷
     [] else tags_of (layer_at stack (node.at + 1))
 
+-- The tags that the message of an emission can have; an event without one has tag 0.
 abbrev pub emission_tags : List LayerTree → Node → EmissionTree → Option ContentTree → List ℕ
 emission_tags stack node e None = 0 ∷ []
 emission_tags stack node e (Some c) = content_tags stack node e.direction c
@@ -90,6 +93,7 @@ arrow_to times node dir kind tags =
           tags;
     }
 
+-- The arrow of an emission, which is done at most so many times.
 abbrev pub emission_arrow : List LayerTree → Node → Repeated → Arrow
 emission_arrow stack node x =
     arrow_to x.times node x.emission.direction x.emission.kind (emission_tags stack node x.emission x.emission.content)
@@ -111,6 +115,7 @@ popped_tag node Down = 0
 abbrev pub entered_handler : List LayerTree → Node → Option HandlerTree
 entered_handler stack node = handler_for (layer_at stack node.at) node.dir node.kind (popped_tag node node.dir)
 
+-- The arrows from a node that enters this handler: one for each emission; where there is none, the event passes on.
 abbrev pub handler_arrows : List LayerTree → Node → Option HandlerTree → List Arrow
 handler_arrows stack node None = passing stack node node.dir
 handler_arrows stack node (Some h) = map (emission_arrow stack node) (emissions_in 1 h.block)

@@ -1,13 +1,13 @@
 -- Layers of the samples, as trees: some of the library's, as far as they are needed, and some that are made to be
 -- judged.
 use Rattle.std.specs.Prelude.{ℕ, true, false, List, [], ◌∷◌, Some, codes}
-use Rattle.layer_ast.specs.declared.tokens.Dir.{Dir}
-use Rattle.layer_ast.specs.declared.tokens.Dir.TheVariants.{Up, Down}
-use Rattle.layer_ast.specs.declared.tokens.Kind.{Kind}
-use Rattle.layer_ast.specs.declared.tokens.Kind.TheVariants.{Cast, Send}
-use Rattle.layer_ast.specs.declared.syntax.Likely.TheVariants as likely
-use Rattle.layer_ast.specs.declared.syntax.Operator.TheVariants.{Add, Equal, NotEqual, Greater, And}
-use Rattle.layer_ast.specs.declared.syntax.Shape.TheVariants.{One, Array}
+use Rattle.layer_words.specs.declared.events.Dir.{Dir}
+use Rattle.layer_words.specs.declared.events.Dir.TheVariants.{Up, Down}
+use Rattle.layer_words.specs.declared.events.Kind.{Kind}
+use Rattle.layer_words.specs.declared.events.Kind.TheVariants.{Cast, Send}
+use Rattle.layer_words.specs.declared.sorts.Likely.TheVariants as likely
+use Rattle.layer_words.specs.declared.operators.Operator.TheVariants.{Add, Equal, NotEqual, Greater, And}
+use Rattle.layer_words.specs.declared.sorts.Shape.TheVariants.{One, Array}
 use Rattle.layer_mean.specs.Tree.{Carried, whole, ExpressionTree, number, me, local, element, rows, item, size, binary}
 use Rattle.layer_mean.specs.Tree.{MessageTree, message, nothing, held, tail, join, StatementTree, assign, push, take}
 use Rattle.layer_mean.specs.Tree.{branch, each, emit, StatementTrees, none, more, Expected, always, common, rare}
@@ -47,9 +47,11 @@ cell c = element c (number 0)
 abbrev pub raise : ℕ → StatementTree
 raise c = assign c (number 0) (binary Add (cell c) (number 1))
 
+-- A cell of this name and form.
 abbrev pub named_cell : List ℕ → Form → CellTree
 named_cell name form = record { name = name; form = form }
 
+-- A header of this name, with so many fields, that passes to the layers above.
 abbrev pub with_fields : List ℕ → ℕ → HeaderTree
 with_fields name fields = record { name = name; fields = fields; ends = false }
 
@@ -214,11 +216,12 @@ late = record {
       (block (sends Down Cast (local 0) (message 1) 0 [] ∷ each 1 (number 1) 1 none ∷ [])) none ∷ []) ∷ [];
 }
 
--- A cast comes back up with the headers with which it came down, and another one that was kept before in its place.
+-- A cast comes back up with the headers with which it came down.
 abbrev pub mirror : LayerTree
 mirror = bare_layer (codes "mirror")
     (on Down Cast 0 always (sends Up Cast (local 0) (tail (message 0) (number 0)) 0 [] ∷ []) ∷ [])
 
+-- In the place of a cast that comes down, one that was kept before goes up.
 abbrev pub memory : LayerTree
 memory = record {
   name = codes "memory";

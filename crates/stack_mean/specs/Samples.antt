@@ -2,13 +2,13 @@
 use Rattle.std.specs.Prelude.{◌≡◌, ℕ, ⊤, List, [], ◌∷◌, ◌++◌, map, replicate, Option, Some, None, Result, Ok, Err}
 use Rattle.std.specs.Prelude.{codes}
 use Rattle.msg_core.specs.Chain.{Content}
-use Rattle.layer_ast.specs.declared.tokens.Dir.{Dir}
-use Rattle.layer_ast.specs.declared.tokens.Dir.TheVariants.{Up, Down}
-use Rattle.layer_ast.specs.declared.tokens.Kind.TheVariants.{Cast, Send, Timer}
+use Rattle.layer_words.specs.declared.events.Dir.{Dir}
+use Rattle.layer_words.specs.declared.events.Dir.TheVariants.{Up, Down}
+use Rattle.layer_words.specs.declared.events.Kind.TheVariants.{Cast, Send, Timer}
 use Rattle.layer_mean.specs.declared.run.Event.{Event}
 use Rattle.layer_mean.specs.declared.run.Case.TheVariants.{First}
 use Rattle.layer_mean.specs.Tree.{LayerTree}
-use Rattle.layer_ast.specs.Spelling.{kinds}
+use Rattle.layer_words.specs.Spelling.{kinds}
 use Rattle.layer_mean.specs.Effect.{unusual}
 use Rattle.layer_mean.specs.Queue.{run}
 use Rattle.layer_mean.specs.Visit.{Visited, fresh, step}
@@ -33,13 +33,15 @@ evaluated = tt
 abbrev pub TwoEchoes : Type 0
 TwoEchoes = (acceptance (echo ∷ echo ∷ []) ≡ Err (cycle 0 Cast)) × (acceptance (echo ∷ []) ≡ Ok (echo ∷ []))
 
--- Each layer makes sixteen of one; four are too many.
+-- A stack of n layers that make sixteen events of one.
 abbrev pub fans : ℕ → List LayerTree
 fans n = replicate n fan
 
+-- The weights of stacks of one to four layers that each make sixteen events of one.
 abbrev pub FanWeights : Type 0
 FanWeights = map (λ n. largest_weight (fans n)) (1 ∷ 2 ∷ 3 ∷ 4 ∷ []) ≡ 17 ∷ 273 ∷ 4369 ∷ 69905 ∷ []
 
+-- Four layers that each make sixteen events of one are too many, and three are accepted.
 abbrev pub FourFans : Type 0
 FourFans = (acceptance (fans 4) ≡ Err (too_many 69905)) × (acceptance (fans 3) ≡ Ok (fans 3))
 
@@ -83,19 +85,24 @@ LongShapes =
 abbrev pub header : ℕ → List (Option ℕ) → DrawnHeader
 header tag fields = record { tag = tag; fields = fields }
 
+-- The maker of an event: this visit, with this emission of it, both counted from 0.
 abbrev pub made_by : ℕ → ℕ → Option Source
 made_by visit emission = Some (record { visit = visit; emission = emission })
 
+-- A visit of a cast, as shapes show it: its place from 0, its direction, the tag of its first header, and its maker.
 abbrev pub visit : ℕ → Dir → ℕ → Option Source → ShapeVisit
 visit place dir tag maker = record { place = place; dir = dir; kind = Cast; tag = tag; made_by = maker }
 
+-- An output of a cast, as shapes show it: its direction, its headers, and its maker.
 abbrev pub out : Dir → List DrawnHeader → Option Source → ShapeOut
 out dir headers maker = record { dir = dir; kind = Cast; headers = headers; made_by = maker }
 
--- A numbered cast goes out, and comes back to its sender after that.
+-- A stack of `bottom`, `local` and `total`: a numbered cast goes out, and then comes back to its sender.
 abbrev pub ordering_stack : List LayerTree
 ordering_stack = bottom ∷ local_copy ∷ total ∷ []
 
+-- The shape of the application's cast over `bottom`, `local` and `total`: four visits, and the packet leaves before the
+-- delivery.
 abbrev pub OrderedShape : Type 0
 OrderedShape = shape ordering_stack app_cast First ≡ Ok (record {
   visits = visit 2 Down 0 None ∷ visit 1 Down 1 (made_by 0 0) ∷ visit 0 Down 0 (made_by 1 0) ∷
@@ -106,10 +113,13 @@ OrderedShape = shape ordering_stack app_cast First ≡ Ok (record {
   length = 15;
 })
 
--- The same over a layer that keeps what it sends: the cast comes back first.
+-- A stack of `bottom`, `mnak`, `local` and `total`, of which `mnak` keeps what it sends: a cast comes back before it
+-- goes out.
 abbrev pub keeping_stack : List LayerTree
 keeping_stack = bottom ∷ mnak ∷ local_copy ∷ total ∷ []
 
+-- The shape of the application's cast over `bottom`, `mnak`, `local` and `total`: five visits, and the delivery comes
+-- before the packet.
 abbrev pub KeptShape : Type 0
 KeptShape = shape keeping_stack app_cast First ≡ Ok (record {
   visits =
@@ -122,19 +132,20 @@ KeptShape = shape keeping_stack app_cast First ≡ Ok (record {
   length = 20;
 })
 
--- Both are accepted; sixteen casts that waited may go up after one.
+-- Both stacks are accepted; over the one that keeps what it sends, sixteen casts that waited may go up after one.
 abbrev pub OrderedAccepted : Type 0
 OrderedAccepted =
     (acceptance ordering_stack ≡ Ok ordering_stack) × (acceptance keeping_stack ≡ Ok keeping_stack) ×
     (largest_weight ordering_stack ≡ 9) ×
     (largest_weight keeping_stack ≡ 55)
 
--- The plans of both stacks: the lowest layer's number is constant.
+-- The plans of the stack without `mnak`, a cast's and a send's: the number in the lowest layer's header is constant.
 abbrev pub OrderedPlans : Type 0
 OrderedPlans = plans_of ordering_stack ≡
     record { kind = Cast; tags = 1 ∷ 0 ∷ 1 ∷ []; fields = Some 1 ∷ None ∷ None ∷ [] } ∷
     record { kind = Send; tags = 1 ∷ 0 ∷ 0 ∷ []; fields = Some 1 ∷ [] } ∷ []
 
+-- The plans of the stack with `mnak`, a cast's and a send's: the number in the lowest layer's header is constant.
 abbrev pub KeptPlans : Type 0
 KeptPlans = plans_of keeping_stack ≡
     record { kind = Cast; tags = 1 ∷ 1 ∷ 0 ∷ 1 ∷ []; fields = Some 1 ∷ None ∷ None ∷ None ∷ [] } ∷
@@ -146,13 +157,15 @@ CounterLengths = map (λ k. length_of (shape (counter ∷ []) k First))
     (app_cast ∷ app_send ∷ packet_entry Cast (1 ∷ []) ∷ packet_entry Send (0 ∷ []) ∷ []) ≡ Ok 4 ∷ Ok 1 ∷ Ok 4 ∷ Ok 1 ∷
     []
 
--- An event for a layer without handlers, and what such a layer makes of it at place 3.
+-- A cast of this message, with peer 1.
 abbrev pub cast_of : Content → Event
 cast_of m = record { kind = Cast; peer = 1; a = 0; b = 0; message = Some m }
 
+-- The visit of an event at the layer `silent`, at place 3 of the member of rank 0 of two.
 abbrev pub at_silent : Dir → Event → Visited
 at_silent dir event = step 3 silent_layer (fresh silent_layer 0 2 0) dir event
 
+-- A visit of the layer `silent` that sends this event on and leaves the state as it was.
 abbrev pub passed_visit : Dir → Event → Visited
 passed_visit dir event = record { state = fresh silent_layer 0 2 0; sent = (dir, event) ∷ []; decided = [] }
 
@@ -160,9 +173,11 @@ passed_visit dir event = record { state = fresh silent_layer 0 2 0; sent = (dir,
 abbrev pub tagged_content : ℕ → List ℕ → Content
 tagged_content tag fields = record { headers = record { layer = 3; tag = tag; fields = fields } ∷ []; body = codes "x" }
 
+-- A message without headers: the letter x.
 abbrev pub untagged_content : Content
 untagged_content = record { headers = []; body = codes "x" }
 
+-- A tick of the clock at moment 5.
 abbrev pub tick : Event
 tick = record { kind = Timer; peer = 0; a = 5; b = 0; message = None }
 

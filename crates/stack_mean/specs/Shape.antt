@@ -4,10 +4,10 @@
 use Rattle.std.specs.Prelude.{ℕ, ◌+◌, ◌-◌, Bool, false, ◌&&◌, ◌||◌, nat_lt, if◌then◌else◌, List, [], ◌∷◌, map}
 use Rattle.std.specs.Prelude.{replicate, length, Option, Some, None, Result, Ok, Err}
 use Rattle.std.specs.Option.{option_map_or}
-use Rattle.layer_ast.specs.declared.tokens.Dir.{Dir}
-use Rattle.layer_ast.specs.declared.tokens.Dir.TheVariants.{Up, Down}
-use Rattle.layer_ast.specs.declared.tokens.Kind.{Kind}
-use Rattle.layer_ast.specs.declared.tokens.Kind.TheVariants.{Cast, Send}
+use Rattle.layer_words.specs.declared.events.Dir.{Dir}
+use Rattle.layer_words.specs.declared.events.Dir.TheVariants.{Up, Down}
+use Rattle.layer_words.specs.declared.events.Kind.{Kind}
+use Rattle.layer_words.specs.declared.events.Kind.TheVariants.{Cast, Send}
 use Rattle.layer_mean.specs.declared.run.Case.{Case}
 use Rattle.layer_mean.specs.declared.run.Case.TheVariants.{First, Second}
 use Rattle.layer_mean.specs.Headers.{header_of_tag}
@@ -63,14 +63,15 @@ pub record Known : Type 0 where
   pub kind : Kind
   pub tags : List ℕ
 
--- The application's own cast and send come from above and have no headers yet; a packet's cast or send comes from below
--- with its tags.
+-- The application's own cast: it comes from above and has no headers yet.
 abbrev pub app_cast : Known
 app_cast = record { dir = Down; kind = Cast; tags = [] }
 
+-- The application's own send: it comes from above and has no headers yet.
 abbrev pub app_send : Known
 app_send = record { dir = Down; kind = Send; tags = [] }
 
+-- The cast or send of a packet: it comes from below with these tags, the lowest layer's first.
 abbrev pub packet_entry : Kind → List ℕ → Known
 packet_entry kind tags = record { dir = Up; kind = kind; tags = tags }
 
@@ -90,6 +91,7 @@ entry_headers layers [] = []
 entry_headers [] (tag ∷ tags) = record { tag = tag; fields = [] } ∷ entry_headers [] tags
 entry_headers (layer ∷ above) (tag ∷ tags) = unknown_header layer tag ∷ entry_headers above tags
 
+-- The event of an entry at the place where it begins, with its headers as far as they are known.
 abbrev pub entry_task : List LayerTree → Known → Task DrawnEvent
 entry_task stack k = record {
   at = entry_place stack k.dir;
@@ -108,6 +110,8 @@ meets_fork stack at dir event (Err reason) = false
 meets_fork stack at dir event (Ok p) = nat_lt p.visits visits_limit &&
     visit_forks (at - 1) (layer_at stack at) dir event
 
+-- What a visit leaves that is drawn and watched, given what it leaves as drawn: that, and whether a condition with two
+-- predicted ways was met so far.
 abbrev pub watched_turn : List LayerTree → ℕ → Dir → DrawnEvent → Watched → Turn (Result Progress NoShape) DrawnEvent →
     Turn Watched DrawnEvent
 watched_turn stack at dir event w turn = record {
@@ -155,9 +159,11 @@ abbrev pub first_tag : List DrawnHeader → ℕ
 first_tag [] = 0
 first_tag (h ∷ hs) = h.tag
 
+-- The headers of an event, as far as they are known; none, if it has no message.
 abbrev pub headers_of : DrawnEvent → List DrawnHeader
 headers_of e = option_map_or (λ headers. headers) e.headers []
 
+-- A logged visit as a shape shows it, with its place counted from 0.
 abbrev pub shape_visit : Logged DrawnEvent → ShapeVisit
 shape_visit x = record {
   place = x.at - 1;
@@ -167,6 +173,7 @@ shape_visit x = record {
   made_by = x.marked.made_by;
 }
 
+-- A logged output as a shape shows it.
 abbrev pub shape_out : Logged DrawnEvent → ShapeOut
 shape_out x = record {
   dir = x.dir;
@@ -179,6 +186,7 @@ shape_out x = record {
 abbrev pub shape_with : Log (Result Progress NoShape) DrawnEvent → Progress → Shape
 shape_with log p = record { visits = map shape_visit log.visits; outs = map shape_out log.outs; length = p.length }
 
+-- The log of a run that was drawn as a shape, or why it can't be drawn.
 abbrev pub shape_of : Log (Result Progress NoShape) DrawnEvent → Result Shape NoShape
 shape_of log = drawn_from (λ p. Ok (shape_with log p)) log.world
 

@@ -1,10 +1,10 @@
 -- Layers with two common cases, drawn in both.
 use Rattle.std.specs.Prelude.{◌≡◌, List, [], ◌∷◌, None, Ok, Err, codes}
-use Rattle.layer_ast.specs.declared.tokens.Dir.TheVariants.{Down}
-use Rattle.layer_ast.specs.declared.tokens.Kind.TheVariants.{Cast, Send}
-use Rattle.layer_ast.specs.declared.syntax.Likely.TheVariants.{Two}
-use Rattle.layer_ast.specs.declared.syntax.Operator.TheVariants.{Equal, BitAnd}
-use Rattle.layer_ast.specs.declared.syntax.Shape.TheVariants.{One}
+use Rattle.layer_words.specs.declared.events.Dir.TheVariants.{Down}
+use Rattle.layer_words.specs.declared.events.Kind.TheVariants.{Cast, Send}
+use Rattle.layer_words.specs.declared.sorts.Likely.TheVariants.{Two}
+use Rattle.layer_words.specs.declared.operators.Operator.TheVariants.{Equal, BitAnd}
+use Rattle.layer_words.specs.declared.sorts.Shape.TheVariants.{One}
 use Rattle.layer_mean.specs.declared.run.Case.TheVariants.{First, Second}
 use Rattle.layer_mean.specs.Tree.{ExpressionTree, number, local, binary, message, StatementTree, branch, each, always}
 use Rattle.layer_mean.specs.Tree.{numbers, LayerTree}
@@ -72,6 +72,7 @@ FlipPlans =
 abbrev pub looping : StatementTree
 looping = each 1 (number 2) 2 (block [])
 
+-- The cast that came, sent down with the header `none`.
 abbrev pub plain_cast : StatementTree
 plain_cast = sends Down Cast (local 0) (message 0) 0 []
 

@@ -1,7 +1,7 @@
 //! How many lines of each kind a script's report has, where the script is made while it is played.
 
 ghost use Rattle.std.specs.Prelude.{◌≡◌, ◌^◌, ◌<◌, ◌≤◌, OnOk, length};
-ghost use Rattle.event_graph.specs.Answer.{stack_tree};
+ghost use Rattle.stack_judge.specs.Answer.{stack_tree};
 ghost use Rattle.group_feed.specs.Beginning.{IsAtFirst, IsReady};
 ghost use Rattle.group_feed.specs.Standing.{Stands};
 ghost use Rattle.msg_core.specs.View.{most_members};
@@ -17,20 +17,20 @@ ghost use Rattle.stack_shapes.specs.Trees.{plans_tree};
 ghost use Rattle.stack_play.specs.Turns.{CountsEvent, Keeps, most_events, playing};
 
 use crate::run::Run;
-use event_graph::Stack;
 use group_feed::Feed;
 use msg_core::Memory;
 use outside::{Sink, SinkError};
 use report_text::{Tally, write_tally};
 use script_mean::ScriptEvent;
 use script_text::{Generation, Workload};
+use stack_judge::Stack;
 use stack_shapes::Plans;
 use std::alloc::Global;
-use step_outputs::{Outputs, an_accepted_stack_is_light};
+use step_outputs::{Outputs, law_accepted_is_light};
 
 /// A load: a workload, and the stack over which its script is played, with the plans of that.
 #[derive(Clone, Copy)]
-pub struct Load<'a> {
+pub struct PlayedLoad<'a> {
     pub stack: &'a Stack,
     pub plans: &'a Plans,
     pub workload: Workload,
@@ -43,7 +43,7 @@ pub fn write_counts<G: Feed, O: Sink>(
     alloc: Global,
     group: &mut G,
     outputs: Outputs,
-    load: Load<'_>,
+    load: PlayedLoad<'_>,
     out: &mut O,
 ) -> Result<(), SinkError>
     requires first { IsAtFirst (G.group group.old).mode (stack_tree load.stack.now) (plans_tree load.plans.now) 1 1
@@ -53,7 +53,7 @@ pub fn write_counts<G: Feed, O: Sink>(
     ensures { Wrote (tally (stack_tree load.entry.stack.now) (plans_tree load.entry.plans.now) (G.group group.old).mode
         (script_for load.entry.workload)) (tells_of O.Sink out.old) (tells_of O.Sink out.new) result }
 {
-    let mut run = Run::begin(alloc, outputs);
+    let mut run = Run::new(alloc, outputs);
     let mut counts = Tally::new();
     count_events(alloc, group, &mut run, load, &mut counts)?;
     write_tally(&mut run.pen, &counts, out)
@@ -64,7 +64,7 @@ fn count_events<G: Feed>(
     alloc: Global,
     group: &mut G,
     run: &mut Run,
-    load: Load<'_>,
+    load: PlayedLoad<'_>,
     counts: &mut Tally,
 ) -> Result<(), Memory>
     requires first { IsAtFirst (G.group group.old).mode (stack_tree load.stack.now) (plans_tree load.plans.now) 1 1
@@ -77,7 +77,7 @@ fn count_events<G: Feed>(
         (plans_tree load.entry.plans.now)
         (run_of (stack_tree load.entry.stack.now) (plans_tree load.entry.plans.now) (script_for load.entry.workload))) }
 {
-    let mut script = Generation::begin(alloc, load.workload)?;
+    let mut script = Generation::new(alloc, load.workload)?;
     for _ in 0..load.workload.events {
         let event = script.next(alloc)?;
         count_event(group, run, load, &event, counts)?;
@@ -90,7 +90,7 @@ fn count_events<G: Feed>(
 fn count_event<G: Feed>(
     group: &mut G,
     run: &mut Run,
-    load: Load<'_>,
+    load: PlayedLoad<'_>,
     event: &ScriptEvent,
     counts: &mut Tally,
 ) -> Result<(), Memory>
@@ -107,8 +107,8 @@ fn count_event<G: Feed>(
         counts.old counts.new result }
 {
     let did = group.feed(event, &mut run.outputs, &mut run.visits)?;
-    an_accepted_stack_is_light(load.stack);
-    run.outputs.has_places_for_all();
+    law_accepted_is_light(load.stack);
+    run.outputs.law_places_for_all();
     counts.count_event(did, &run.outputs);
     Ok(())
 }

@@ -6,5 +6,5 @@ mod counting;
 mod reporting;
 mod run;
 
-pub use counting::{Load, write_counts};
+pub use counting::{PlayedLoad, write_counts};
 pub use reporting::{Report, write_report};

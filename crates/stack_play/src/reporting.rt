@@ -2,7 +2,7 @@
 
 ghost use Rattle.std.specs.Prelude.{◌≡◌, ◌^◌, ◌<◌, ◌≤◌, ◌∷◌, OnOk, length};
 ghost use Rattle.std.specs.List.{flat_map, sum_by};
-ghost use Rattle.event_graph.specs.Answer.{stack_tree};
+ghost use Rattle.stack_judge.specs.Answer.{stack_tree};
 ghost use Rattle.group_feed.specs.Beginning.{IsAtFirst, IsReady};
 ghost use Rattle.group_feed.specs.Standing.{Stands};
 ghost use Rattle.outside.specs.Lines.{Wrote};
@@ -20,7 +20,7 @@ use outside::{Sink, SinkError};
 use report_text::{Manner, Outcome, Pen, write_end, write_event, write_visits};
 use script_mean::{Script, ScriptEvent};
 use std::alloc::Global;
-use step_outputs::{Outputs, an_accepted_stack_is_light};
+use step_outputs::{Outputs, law_accepted_is_light};
 
 /// A report that is wanted: the script that it is of, how its lines are written, and whether it ends with the number of
 /// visits.
@@ -48,7 +48,7 @@ pub fn write_report<G: Shows, O: Sink>(
         report.entry.script.now (G.group group.old).mode report.entry.manner.wire report.entry.count)
         (tells_of O.Sink out.old) (tells_of O.Sink out.new) result }
 {
-    let mut run = Run::begin(alloc, outputs);
+    let mut run = Run::new(alloc, outputs);
     write_events(report.manner, group, &mut run, report.script, out)?;
     let events = report.script.events.slice().len() as u64;
     write_last(&mut run.pen, events, report.count, run.visits, out)
@@ -126,8 +126,8 @@ fn play_event<G: Shows, O: Sink>(
 {
     let first = group.next_number();
     let did = group.feed(event, &mut run.outputs, &mut run.visits)?;
-    an_accepted_stack_is_light(manner.stack.stack());
-    run.outputs.has_places_for_all();
+    law_accepted_is_light(manner.stack.stack());
+    run.outputs.law_places_for_all();
     let outcome = Outcome {
         event,
         did,

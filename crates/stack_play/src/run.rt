@@ -16,7 +16,7 @@ pub(crate) struct Run {
 
 impl Run {
     /// No visit is counted yet.
-    pub(crate) fn begin(alloc: Global, outputs: Outputs) -> Run
+    pub(crate) fn new(alloc: Global, outputs: Outputs) -> Run
         ensures outputs { result.outputs ≡ outputs }
         ensures visits { result.visits ≡ 0 }
     {

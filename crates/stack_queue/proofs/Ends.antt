@@ -25,7 +25,7 @@ use Rattle.layer_eval.specs.Did.{as_predicted}
 use Rattle.pool_message.specs.Seen.{event_refs, EventLies}
 use Rattle.pool_message.specs.Sent.{sent_refs, sent_seen, SentLie}
 use Rattle.pool_message.specs.declared.event.PoolEvent.{PoolEvent}
-use Rattle.layer_ast.specs.declared.tokens.Dir.{Dir}
+use Rattle.layer_words.specs.declared.events.Dir.{Dir}
 use Rattle.layer_stage.specs.Room.{CountsWithin}
 use Rattle.stack_queue.specs.declared.tasks.PoolTask.{PoolTask}
 use Rattle.stack_queue.specs.Pending.{task_seen, tasks_refs}

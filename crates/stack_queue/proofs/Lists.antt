@@ -4,7 +4,7 @@ use Rattle.std.proofs.Common.{get_or, slice_get, option_map, refl, sym, ap, subs
 use Rattle.std.proofs.lemmas.List.{length-append, length-map}
 use Rattle.circular_buffer.specs.Buffer.{Buffer, buffer}
 use Rattle.slot_pool.specs.Held.{Held}
-use Rattle.layer_ast.specs.declared.tokens.Dir.{Dir}
+use Rattle.layer_words.specs.declared.events.Dir.{Dir}
 use Rattle.layer_mean.specs.declared.run.Event.{Event}
 use Rattle.layer_mean.specs.Queue.{beyond, tasks_of}
 use Rattle.pool_message.specs.Seen.{event_refs, event_seen}
@@ -196,7 +196,7 @@ alone_goes_on at (p ∷ q ∷ places) ys dir to room now one other next there is
 alone_goes_on at (p ∷ []) [] dir to room now one other next there is = absurd (omega (arith, other))
 alone_goes_on at (p ∷ []) (y ∷ z ∷ ys) dir to room now one other next there is = absurd (omega (arith, other))
 
--- the same after the places that are left once the first is gone
+-- the events that have no place yet get theirs after the places that are left once the first is gone
 pub goes_after : (at : ℕ) (places : List ℕ) (ys : List (Dir × PoolEvent)) (room : ℕ) (left now : Buffer ℕ) →
     left ≡ buffer (drop 1 places) room →
     now ≡ buffer (left.items ++ places_on at (drop (length left.items) ys)) left.capacity →

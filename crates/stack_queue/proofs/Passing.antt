@@ -4,7 +4,7 @@ use Rattle.std.proofs.Common.{◌∷◌, ◌++◌, map, set, get_or, flat_map, l
 use Rattle.slot_pool.specs.Held.{Held}
 use Rattle.slot_pool.specs.References.{Moved, Covers}
 use Rattle.slot_pool.proofs.References.{moved-same}
-use Rattle.layer_ast.specs.declared.tokens.Dir.{Dir}
+use Rattle.layer_words.specs.declared.events.Dir.{Dir}
 use Rattle.layer_mean.specs.State.{State}
 use Rattle.layer_mean.specs.Tree.{LayerTree}
 use Rattle.layer_mean.specs.Visit.{Visited, step, none_header}

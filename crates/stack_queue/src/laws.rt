@@ -3,7 +3,7 @@
 ghost use Rattle.stack_queue.specs.Laws.{EntriesFit, StacksFit};
 
 /// A list that is made for a stack has places for each run: a task with which one begins weighs no more than the stack.
-pub fn entries_fit()
+pub fn law_entries_fit()
     ensures { EntriesFit }
 {}
 

@@ -8,7 +8,7 @@ mod sent;
 mod tasks;
 mod turns;
 
-pub use laws::{entries_fit, stacks_fit};
+pub use laws::{law_entries_fit, stacks_fit};
 pub use sent::events_for;
 pub use tasks::{BareTask, PoolTask, Tasks};
 pub use turns::run;

@@ -7,8 +7,8 @@ ghost use Rattle.stack_queue.specs.Round.{Passes};
 ghost use Rattle.stack_queue.specs.Passing.{Rest, GoesWith, Continues, StaysAt, standing_at};
 
 use crate::places::beyond;
-use layer_ast::Dir;
 use layer_stage::Stage;
+use layer_words::Dir;
 use pool_message::PoolEvent;
 
 /// An event that stands at a place, the only one with which a run goes on, passes the layers that have no handler for

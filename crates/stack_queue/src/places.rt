@@ -6,7 +6,7 @@ ghost use Rattle.layer_mean.specs.Queue as spec;
 ghost use Rattle.pool_message.specs.Sent.{first_sent};
 ghost use Rattle.stack_queue.specs.Pending.{places_on};
 
-use layer_ast::Dir;
+use layer_words::Dir;
 use pool_message::{Events, ShortQueue};
 
 /// A place becomes the last.

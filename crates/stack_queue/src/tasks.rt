@@ -6,14 +6,14 @@ ghost use Rattle.stack_mean.specs.Acceptance.{largest_weight};
 
 use crate::passes::{pass_along, pass_one};
 use crate::places::{beyond, end_first, first_way, go_on, put_place, stand_alone};
-use event_graph::Stack;
-use layer_ast::Dir;
 use layer_eval::Predicted;
 use layer_mean::Envelope;
 use layer_stage::Stage;
+use layer_words::Dir;
 use msg_core::Headers;
 use pool_message::{Events, PoolEvent, ShortQueue};
 use slot_pool::Pool;
+use stack_judge::Stack;
 use std::alloc::{AllocError, Global};
 use std::marker::Model;
 
@@ -56,7 +56,7 @@ impl Model for Tasks {
 }
 
 impl Tasks {
-    ghost use Rattle.event_graph.specs.Answer.{stack_tree};
+    ghost use Rattle.stack_judge.specs.Answer.{stack_tree};
     ghost use Rattle.slot_pool.specs.Held.{spare};
     ghost use Rattle.slot_pool.specs.References.{Moved, Covers};
     ghost use Rattle.msg_core.specs.Parts.{longest_body};
@@ -74,13 +74,13 @@ impl Tasks {
     ghost use Rattle.stack_queue.specs.Put.{carrying_task, task_with, Puts};
 
     /// No task, with places for the weight of a stack.
-    pub fn fresh(alloc: Global, stack: &Stack) -> Result<Tasks, AllocError>
+    pub fn new(alloc: Global, stack: &Stack) -> Result<Tasks, AllocError>
         ensures { IfOk result (λ tasks. tasks ≡ buffer [] (largest_weight (stack_tree stack.now))) }
     {
-        stack.is_accepted();
+        stack.law_accepted();
         let count = stack.weight() as usize + 1;
         let places = ShortQueue::with_capacity(alloc, count, 0)?;
-        match Events::fresh(alloc, count) {
+        match Events::with_places(alloc, count) {
             Ok(events) => Ok(Tasks { places, events }),
             Err(fault) => {
                 places.destroy_empty();

@@ -8,7 +8,7 @@ ghost use Rattle.slot_pool.specs.References.{Moved, Covers};
 ghost use Rattle.weight_laws.specs.Visits.{task_weight, task_joins};
 ghost use Rattle.weight_laws.specs.Runs.{Enters};
 ghost use Rattle.chain_laws.specs.Runs.{TypedStack, AreChainedStates, IsChainedTask};
-ghost use Rattle.event_graph.specs.Answer.{stack_tree};
+ghost use Rattle.stack_judge.specs.Answer.{stack_tree};
 ghost use Rattle.layer_mean.specs.Queue as spec;
 ghost use Rattle.layer_eval.specs.Did.{as_predicted};
 ghost use Rattle.pool_message.specs.Seen.{event_refs, EventLies};
@@ -19,11 +19,11 @@ ghost use Rattle.stack_queue.specs.Stages.{Stand, most_at_first, run_of};
 ghost use Rattle.stack_queue.specs.Taken.{taken_after};
 
 use crate::tasks::Tasks;
-use event_graph::Stack;
 use layer_eval::Predicted;
 use layer_stage::Stage;
 use pool_message::Events;
 use slot_pool::Pool;
+use stack_judge::Stack;
 
 /// Runs the layers of a stack from the one task that is pending, until no task is left: each task is an event that its
 /// layer takes, or one that comes out at an edge. Says whether each visit decided as predicted. `tasks` is left empty,

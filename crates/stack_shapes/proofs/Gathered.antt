@@ -7,7 +7,7 @@ use Rattle.std.proofs.lemmas.List.Elements.{filter-append}
 use Rattle.stack_mean.specs.Plan as mean
 use Rattle.stack_mean.specs.Plans.{is_packet, plan_of}
 use Rattle.stack_mean.specs.Shape.{ShapeOut}
-use Rattle.event_graph.proofs.Steps.{one_taken}
+use Rattle.stack_judge.proofs.Steps.{one_taken}
 use Rattle.shape_core.specs.declared.types.ShapeOut as code
 use Rattle.shape_core.specs.Sketch.{out_tree}
 use Rattle.stack_shapes.specs.Lists.{packets_in, plan_or_none}

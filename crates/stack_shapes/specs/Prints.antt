@@ -2,8 +2,8 @@
 -- are compared with a packet.
 use Rattle.std.specs.Prelude.{◌≡◌, ◌≢◌, ℕ, ◌+◌, ◌*◌, ◌%◌, ◌<◌, ◌≤◌, List, fold, length, map, get_or, Option, Some, None}
 use Rattle.std.proofs.Props.{props}
-use Rattle.layer_ast.specs.declared.tokens.Kind.{Kind}
-use Rattle.layer_ast.specs.declared.tokens.Kind.TheVariants.{Cast}
+use Rattle.layer_words.specs.declared.events.Kind.{Kind}
+use Rattle.layer_words.specs.declared.events.Kind.TheVariants.{Cast}
 use Rattle.stack_mean.specs.Plan.{Plan}
 
 -- The print of a kind without tags, and one with a tag more.

@@ -1,8 +1,8 @@
 //! The shapes of the entries of a stack.
 
 ghost use Rattle.std.specs.Prelude.{◌≡◌, [], map, IfOk};
-ghost use Rattle.layer_ast.specs.declared.tokens.Dir.TheVariants.{Down};
-ghost use Rattle.event_graph.specs.Answer.{stack_tree};
+ghost use Rattle.layer_words.specs.declared.events.Dir.TheVariants.{Down};
+ghost use Rattle.stack_judge.specs.Answer.{stack_tree};
 ghost use Rattle.shape_core.specs.Cases.{case_trees, shapes_of};
 ghost use Rattle.shape_core.specs.Sketch.{known_tree};
 ghost use Rattle.stack_shapes.specs.Lists.{plan_tree};
@@ -11,10 +11,10 @@ ghost use Rattle.stack_shapes.specs.Starts.{HaveFewOuts};
 
 use crate::cases::limited_cases;
 use crate::types::Plan;
-use event_graph::Stack;
-use layer_ast::{Dir, Kind};
+use layer_words::{Dir, Kind};
 use msg_core::Memory;
 use shape_core::{CaseShapes, Known, shapes};
+use stack_judge::Stack;
 use std::alloc::Global;
 
 /// The shapes of an application's own event of a kind, however long they are.

@@ -6,7 +6,7 @@ ghost use Rattle.shape_core.specs.Sketch.{out_tree};
 ghost use Rattle.stack_shapes.specs.Lists.{plan_tree};
 
 use crate::types::Plan;
-use layer_ast::{Dir, Kind};
+use layer_words::{Dir, Kind};
 use msg_core::Memory;
 use shape_core::ShapeOut;
 use std::alloc::Global;

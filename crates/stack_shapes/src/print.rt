@@ -5,7 +5,7 @@ ghost use Rattle.stack_shapes.specs.Prints.{first_print, plan_print, print_with}
 ghost use Rattle.stack_shapes.specs.Lists.{plan_tree};
 
 use crate::types::Plan;
-use layer_ast::Kind;
+use layer_words::Kind;
 
 /// A byte that all packets of one kind with one chain of tags have in common; few others have it.
 #[derive(Clone, Copy, Debug, PartialEq, Eq)]

@@ -2,7 +2,7 @@
 
 ghost use Rattle.std.specs.Prelude.{◌≡◌, IfOk};
 ghost use Rattle.stack_mean.specs.Plans.{plans_of};
-ghost use Rattle.event_graph.specs.Answer.{stack_tree};
+ghost use Rattle.stack_judge.specs.Answer.{stack_tree};
 ghost use Rattle.stack_shapes.specs.Shapes.{short_shapes};
 ghost use Rattle.stack_shapes.specs.Starts.{starts_of, starts_tree};
 ghost use Rattle.stack_shapes.specs.Trees.{plans_tree};
@@ -12,9 +12,9 @@ use crate::entries::EntryShapes;
 use crate::kept::Plans;
 use crate::made::{all_shapes, app_shapes};
 use crate::starts::PlanStarts;
-use event_graph::Stack;
-use layer_ast::Kind;
+use layer_words::Kind;
 use msg_core::Memory;
+use stack_judge::Stack;
 use std::alloc::Global;
 
 /// The plans of a stack, where those of an application's own events begin, and the shapes of its entries.

@@ -3,7 +3,7 @@
 ghost use Rattle.std.specs.Prelude.{◌≤◌, vec_len};
 ghost use Rattle.stack_shapes.specs.declared.types.TheConstants.{MOST_PLANS};
 
-use layer_ast::Kind;
+use layer_words::Kind;
 
 /// The most plans of a stack.
 pub const MOST_PLANS: usize = 250;

@@ -3,9 +3,9 @@
 ghost use Rattle.std.specs.Prelude.{◌<◌};
 ghost use Rattle.typed_layer.specs.Table.{IsTagged};
 
-use layer_ast::{Dir, Kind};
+use layer_words::{Dir, Kind};
 use std::alloc::{AllocError, Global};
-use typed_layer::{Block, Expected, Handler, Handlers};
+use typed_layer::{Expected, Handler, Handlers, StatementBlock};
 
 /// A handler that is told from others by how many numbers it has.
 fn handler(alloc: Global, direction: Dir, kind: Kind, tag: u8, numbers: u8) -> Handler
@@ -19,7 +19,7 @@ fn handler(alloc: Global, direction: Dir, kind: Kind, tag: u8, numbers: u8) -> H
         expected: Expected::Always,
         numbers,
         messages: 0,
-        block: Block {
+        block: StatementBlock {
             statements: Vec::new(alloc),
         },
     }

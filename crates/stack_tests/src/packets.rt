@@ -1,11 +1,11 @@
 //! A layer whose header has a constant and a variable field: its packets in both forms.
 
 use crate::writing::{RUNS, Reader, Run, fitting, scanned, sent};
-use event_graph::Stack;
 use file_judge::judge;
 use msg_core::{Dest, Fields, Header, Headers, View};
 use packet_full::Scan;
 use packet_mean::Here;
+use stack_judge::Stack;
 use stack_shapes::{Plans, StackShapes};
 use std::alloc::Global;
 use std::process::Abort;
@@ -62,7 +62,7 @@ fn reader<'a>(stack: &'a Stack, plans: &'a Plans, run: Run) -> Reader<'a> {
 
 /// A cast by rank 0 with a number before the rank.
 fn cast(number: u32) -> Scan {
-    let mut headers = Headers::none();
+    let mut headers = Headers::new();
     headers.push_front(Header {
         layer: 0,
         tag: 1,
@@ -110,7 +110,7 @@ fn the_full_form_is_read(rt: HostRuntime) -> Result<(), Fail> {
     let plans = StackShapes::of(alloc, &stack)?.plans;
     for run in RUNS {
         let reader = reader(&stack, &plans, run);
-        let mut scan = Scan::none();
+        let mut scan = Scan::new();
         let Ok(told) = reader.read(alloc, &FULL, &mut scan)? else {
             panic!(rt; "the datagram is refused")
         };
@@ -130,7 +130,7 @@ fn the_short_form_is_read(rt: HostRuntime) -> Result<(), Fail> {
     let plans = StackShapes::of(alloc, &stack)?.plans;
     for run in RUNS {
         let reader = reader(&stack, &plans, run);
-        let mut scan = Scan::none();
+        let mut scan = Scan::new();
         let Ok(told) = reader.read(alloc, &SHORT, &mut scan)? else {
             panic!(rt; "the datagram is refused")
         };

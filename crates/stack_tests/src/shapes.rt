@@ -1,9 +1,9 @@
 //! A stack of silent layers: what has no shape, and which steps are common.
 
-use event_graph::Stack;
 use file_judge::judge;
-use layer_ast::{Dir, Kind};
+use layer_words::{Dir, Kind};
 use shape_core::{Absent, Known, shapes};
+use stack_judge::Stack;
 use stack_shapes::{EntryOf, StackShapes};
 use std::alloc::Global;
 use std::process::Abort;

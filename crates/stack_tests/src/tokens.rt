@@ -1,7 +1,7 @@
 //! Texts that are cut into tokens, whole and part by part.
 
 use file_lex::{Left, cut, cut_part};
-use layer_ast::At;
+use layer_words::At;
 use std::test::Fail;
 
 #[test]

@@ -1,16 +1,15 @@
 //! What members send and read, by the calls that the program makes.
 
 ghost use Rattle.std.specs.Prelude.{IfOk};
-ghost use Rattle.event_graph.specs.Answer.{stack_tree};
+ghost use Rattle.stack_judge.specs.Answer.{stack_tree};
 ghost use Rattle.stack_shapes.specs.Trees.{plans_tree};
 ghost use Rattle.packet_short.specs.Layouts.{AreLaidOut};
 
-use event_graph::Stack;
 use msg_core::{Memory, Stray};
 use packet_full::{PacketView, Scan};
 use packet_mean::Here;
-use packet_short::{Known, Layouts, fits_scan, most_fields, scan_packet};
-use packet_wire::{put_wire, wire_room_of};
+use packet_short::{Known, Layouts, fits_scan, most_fields, put_wire, scan_packet, wire_room_of};
+use stack_judge::Stack;
 use stack_shapes::Plans;
 use std::alloc::{AllocError, Global};
 
@@ -75,7 +74,7 @@ fn laid_out(alloc: Global, reader: &Reader<'_>) -> Result<Layouts, Memory>
 {
     match reader.run {
         Run::ByCode => Layouts::of(alloc, reader.stack, reader.plans),
-        Run::Layered => Ok(Layouts::none(alloc)),
+        Run::Layered => Ok(Layouts::new(alloc)),
     }
 }
 

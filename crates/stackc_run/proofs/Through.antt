@@ -8,7 +8,7 @@ use Rattle.job_mean.specs.Job.{Job, job_of_words}
 use Rattle.end_mean.specs.Status.{Ended, done, breached}
 use Rattle.outside.specs.Tells.{Tells}
 use Rattle.job_ends.specs.Comes.{Around, surrounding, Whole}
-use Rattle.job_streams.proofs.Closed.{ends_well, ends_in_breach}
+use Rattle.job_ends.proofs.Closed.{ends_well, ends_in_breach}
 use Rattle.node_loop.specs.Serve.{MadeAllTurns}
 use Rattle.node_jobs.specs.Comes.{Beyond, Node, Ran}
 use Rattle.stackc_run.specs.Performed.{Way, over_files, over_network, way_of, PerformedBy, Performed}

@@ -49,7 +49,8 @@ pub record Done (words : List Text) (job : Job) (a : Around) (n : Beyond) (e : E
   pub seen : Seen words (Some job) a e
   pub exact : Exact job a e.status
 
--- The same of a node.
+-- A node's job ended in one way, and that was said; this is a run of the program as the definitions have it; and its
+-- status is the one that is due.
 pub record NodeDone (words : List Text) (w : Node) (a : Around) (n : Beyond) (e : Errors) : Type 0 where
   pub end : Ended
   pub came : NodeComes w a n end
@@ -57,7 +58,8 @@ pub record NodeDone (words : List Text) (w : Node) (a : Around) (n : Beyond) (e 
   pub seen : NodeSeen words w a n e
   pub exact : NodeExact w a n e.status
 
--- The same of words that are no job.
+-- Words that are no job were refused, or memory ran out, and that was said; this is a run of the program as the
+-- definitions have it; and its status is 2, or 7 where memory ran out.
 pub record Jobless (words : List Text) (a : Around) (n : Beyond) (e : Errors) : Type 0 where
   pub end : Ended
   pub came : NoJob a end

@@ -15,7 +15,7 @@ use Rattle.outside.specs.Said.{errors}
 use Rattle.outside.specs.Tells.{Tells}
 use Rattle.program_streams.specs.Streams.{Stream, stream}
 use Rattle.job_ends.specs.Comes.{Good, surrounding}
-use Rattle.job_streams.specs.Closes.{Closes, end_after_delivery}
+use Rattle.job_ends.specs.Closes.{Closes, end_after_delivery}
 use Rattle.node_loop.specs.Serve.{MadeAllTurns}
 use Rattle.node_jobs.specs.Comes.{Beyond, Node, Ran}
 use Rattle.stackc_run.specs.Performed.{Way, over_files, over_network, way_of, Performed, Does}

@@ -8,7 +8,7 @@ ghost use Rattle.stackc_run.specs.Through.{RunsThrough, Delivers, IsWhole};
 ghost use Rattle.program_streams.specs.Streams.{over};
 
 use crate::perform::perform;
-use job_streams::close;
+use job_ends::close;
 use outside::{Clock, Links, Shelf, Sink, StdSink};
 use std::alloc::Global;
 use std::io::Write;

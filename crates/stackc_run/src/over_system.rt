@@ -1,8 +1,7 @@
 //! The program over the system's arguments, files, streams, sockets and clock.
 
 use crate::over_streams::run_through;
-use job_ends::NO_MEMORY;
-use outside::{FileShelf, RunClock};
+use outside::{FileShelf, NO_MEMORY, RunClock};
 use program_streams::begin;
 use std::io::Write;
 use std::net::Net;
@@ -20,11 +19,11 @@ pub fn program<R: AllocGlobal + Env + Files + Net + SystemClock, O: Write + Drop
     let Ok((words, mut out, mut err)) = begin(system, out, err) else {
         return NO_MEMORY;
     };
-    let mut shelf = FileShelf::of(system);
-    let Ok(mut links) = UdpLinks::of(alloc, system) else {
+    let mut shelf = FileShelf::new(system);
+    let Ok(mut links) = UdpLinks::new(alloc, system) else {
         return NO_MEMORY;
     };
-    let mut clock = RunClock::of(system);
+    let mut clock = RunClock::new(system);
     run_through(
         alloc, &words, &mut shelf, &mut out, &mut err, &mut links, &mut clock,
     )

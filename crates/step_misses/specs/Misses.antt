@@ -1,6 +1,6 @@
 -- What is told of steps that weren't common, as the definitions have it.
 use Rattle.std.specs.Prelude.{option_map}
-use Rattle.miss_mean.specs.Lacks as mean
+use Rattle.lack_mean.specs.Lacks as mean
 use Rattle.shape_core.specs.Cases.{reason_tree}
 use Rattle.stack_shapes.specs.declared.entry.EntryOf.{EntryOf}
 use Rattle.stack_shapes.specs.declared.entry.EntryOf.TheVariants as entry

@@ -5,7 +5,7 @@ use Rattle.std.specs.List.{AllByRecursion}
 use Rattle.std.proofs.lemmas.List.{take-append-le, drop-append-le, map-append}
 use Rattle.slot_pool.specs.Held.{range}
 use Rattle.msg_core.specs.Parts.{longest_body}
-use Rattle.layer_ast.specs.declared.tokens.Dir.{Dir}
+use Rattle.layer_words.specs.declared.events.Dir.{Dir}
 use Rattle.layer_mean.specs.declared.run.Event.{Event}
 use Rattle.packet_mean.specs.declared.here.Here.{Here}
 use Rattle.run_mean.specs.Member as member

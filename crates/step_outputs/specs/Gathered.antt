@@ -1,6 +1,6 @@
 -- What a contract sees of outputs.
 use Rattle.std.specs.Prelude.{ℕ, List, Option, None}
-use Rattle.layer_ast.specs.declared.tokens.Dir.{Dir}
+use Rattle.layer_words.specs.declared.events.Dir.{Dir}
 use Rattle.layer_mean.specs.declared.run.Event.{Event}
 use Rattle.packet_mean.specs.declared.here.Here.{Here}
 use Rattle.run_mean.specs.Member.{Output, output_of}

@@ -5,7 +5,7 @@ use Rattle.std.specs.List.{AllByRecursion}
 use Rattle.slot_pool.specs.Held.{range}
 use Rattle.msg_core.specs.Parts.{longest_body}
 use Rattle.msg_core.specs.declared.message.Header.{Header}
-use Rattle.layer_ast.specs.declared.tokens.Dir.{Dir}
+use Rattle.layer_words.specs.declared.events.Dir.{Dir}
 use Rattle.layer_mean.specs.declared.run.Event.{Event}
 use Rattle.packet_full.specs.Sent.{sent_packet}
 use Rattle.packet_mean.specs.declared.here.Here.{Here}
@@ -60,7 +60,7 @@ takes_number (Packet dest plan) = true
 takes_number (Nowhere plan) = true
 takes_number _ = false
 
--- The same, sent short under this plan if it takes a number.
+-- An output, sent short under this plan, if there is one, where it takes one of the numbers of plans.
 abbrev pub under : Option ℕ → What → What
 under plan (Packet dest _) = Packet dest plan
 under plan (Nowhere _) = Nowhere plan

@@ -7,8 +7,8 @@ ghost use Rattle.slot_pool.specs.Held.{Held};
 ghost use Rattle.msg_core.specs.Chain.{Content};
 ghost use Rattle.msg_core.specs.Parts.{longest_body};
 ghost use Rattle.msg_core.specs.View.{member_count as members_of, most_members};
-ghost use Rattle.layer_ast.specs.declared.tokens.Dir.TheVariants.{Up, Down};
-ghost use Rattle.layer_ast.specs.declared.tokens.Kind.TheVariants as kind;
+ghost use Rattle.layer_words.specs.declared.events.Dir.TheVariants.{Up, Down};
+ghost use Rattle.layer_words.specs.declared.events.Kind.TheVariants as kind;
 ghost use Rattle.layer_mean.specs.Envelope.{event_in};
 ghost use Rattle.layer_mean.specs.Event.{carries};
 ghost use Rattle.layer_mean.specs.declared.run.Event.{Event};
@@ -22,13 +22,14 @@ ghost use Rattle.step_outputs.specs.Views.{output_meant, signal_meant};
 
 use crate::list::KeptList;
 use crate::view::{OutputView, Signal};
-use layer_ast::{Dir, Kind};
 use layer_mean::Envelope;
+use layer_words::{Dir, Kind};
 use msg_core::{Dest, Headers};
-use packet_full::{PacketView, member_count, put_body};
+use packet_full::{PacketView, put_body};
 use packet_mean::Here;
 use pool_message::PoolEvent;
 use slot_pool::Pool;
+use view_masks::member_count;
 
 /// A range of bytes.
 #[derive(Clone, Copy)]

@@ -2,13 +2,13 @@
 
 ghost use Rattle.std.specs.Prelude.{◌≤◌};
 ghost use Rattle.stack_mean.specs.Acceptance.{largest_weight, weight_limit};
-ghost use Rattle.event_graph.specs.Answer.{stack_tree};
+ghost use Rattle.stack_judge.specs.Answer.{stack_tree};
 
-use event_graph::Stack;
+use stack_judge::Stack;
 
 /// A stack that is accepted weighs at most 65,536, so it has no more outputs in a step.
-pub fn an_accepted_stack_is_light(stack: &Stack)
+pub fn law_accepted_is_light(stack: &Stack)
     ensures { largest_weight (stack_tree stack.now) ≤ weight_limit }
 {
-    stack.is_accepted();
+    stack.law_accepted();
 }

@@ -10,7 +10,7 @@ mod view;
 // A crate can name outputs in a contract only if the types of their fields are exported.
 #[doc(hidden)]
 pub use kept::{Kept, Span, What};
-pub use laws::an_accepted_stack_is_light;
+pub use laws::law_accepted_is_light;
 #[doc(hidden)]
 pub use list::KeptList;
 pub use outputs::Outputs;

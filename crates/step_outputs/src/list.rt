@@ -36,7 +36,7 @@ impl KeptList {
     ghost use Rattle.step_outputs.specs.Kept.{numbered_outputs};
 
     /// No output, with room for `places`.
-    pub fn fresh(alloc: Global, places: usize) -> Result<KeptList, AllocError>
+    pub fn with_places(alloc: Global, places: usize) -> Result<KeptList, AllocError>
         ensures { IfOk result (λ l. l ≡ buffer [] places) }
     {
         Ok(KeptList {
@@ -52,6 +52,7 @@ impl KeptList {
         self.count
     }
 
+    /// The outputs, in order.
     pub fn slice(&self) -> &[Kept]
         ensures { result.now ≡ self.now.items }
     {
@@ -88,7 +89,7 @@ impl KeptList {
         if self.count < self.places.len() {
             become_bare(&mut self.places[self.count], what, body);
         } else {
-            let headers = Headers::none();
+            let headers = Headers::new();
             self.places.push_reserved(Kept {
                 what,
                 headers,

@@ -7,7 +7,7 @@ ghost use Rattle.stack_mean.specs.Acceptance.{largest_weight};
 ghost use Rattle.stack_mean.specs.Plan.{Plan};
 ghost use Rattle.stack_mean.specs.Plans.{plans_limit};
 ghost use Rattle.msg_core.specs.Parts.{longest_body};
-ghost use Rattle.event_graph.specs.Answer.{stack_tree};
+ghost use Rattle.stack_judge.specs.Answer.{stack_tree};
 ghost use Rattle.layer_mean.specs.Envelope.{event_in};
 ghost use Rattle.layer_mean.specs.Event.{carries};
 ghost use Rattle.pool_message.specs.Seen.{event_seen, EventLies};
@@ -21,13 +21,13 @@ use crate::kept::{
 };
 use crate::list::KeptList;
 use crate::view::OutputView;
-use event_graph::Stack;
-use layer_ast::Dir;
 use layer_mean::Envelope;
+use layer_words::Dir;
 use msg_core::{Headers, LONGEST_BODY, View};
 use packet_mean::Here;
 use pool_message::PoolEvent;
 use slot_pool::Pool;
+use stack_judge::Stack;
 use std::alloc::{AllocError, Global};
 use std::marker::Model;
 
@@ -60,7 +60,7 @@ impl Model for Outputs {
 
 impl Outputs {
     /// No output, with places for all that a step of a stack may have.
-    pub fn fresh(alloc: Global, stack: &Stack) -> Result<Outputs, AllocError>
+    pub fn new(alloc: Global, stack: &Stack) -> Result<Outputs, AllocError>
         ensures none { IfOk result (λ o. o.outputs ≡ []) }
         ensures places { IfOk result (λ o. o.places ≡ largest_weight (stack_tree stack.now)) }
     {
@@ -72,7 +72,7 @@ impl Outputs {
                 view: View { ltime: 0, mask: 0 },
                 rank: 0,
             },
-            list: KeptList::fresh(alloc, places)?,
+            list: KeptList::with_places(alloc, places)?,
             bytes: Vec::with_capacity(alloc, places * LONGEST_BODY as usize)?,
             places,
         })
@@ -165,7 +165,7 @@ impl Outputs {
     }
 
     /// That there are no more than there are places for.
-    pub fn has_places_for_all(&self)
+    pub fn law_places_for_all(&self)
         ensures { length self.now.outputs ≤ self.now.places }
     {
         let _list = &self.list;

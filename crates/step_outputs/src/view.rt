@@ -1,6 +1,6 @@
 //! What is told of an output.
 
-use layer_ast::{Dir, Kind};
+use layer_words::{Dir, Kind};
 use packet_full::PacketView;
 
 /// An event that is nothing outside of its stack: its kind and its numbers. It has no message.

@@ -19,14 +19,16 @@ pub record Values : Type 0 where
   pub takes : ℕ
   pub written : List (ℕ × ℕ)
 
+-- Before the first operation nothing has a value, and no cell was written.
 abbrev pub no_values : Values
 no_values = record { numbers = []; messages = []; takes = 0; written = [] }
 
--- How often a cell was written, and the cell as it is read now.
+-- How often cell c of place p was written.
 abbrev pub writes_to : List (ℕ × ℕ) → ℕ → ℕ → ℕ
 writes_to [] p c = 0
 writes_to (w ∷ written) p c = if is_here p c w.0 w.1 then suc (writes_to written p c) else writes_to written p c
 
+-- Cell c of place p as it is read now, after the writes so far.
 abbrev pub cell_seen : Values → ℕ → ℕ → Seen
 cell_seen v p c = record { place = p; cell = c; writes = writes_to v.written p c }
 
@@ -34,7 +36,7 @@ cell_seen v p c = record { place = p; cell = c; writes = writes_to v.written p c
 abbrev pub taken_row : Values → ℕ → Option ℕ
 taken_row v row = if nat_lt row v.takes then Some row else None
 
--- The values of a number and a message for which no cell is read. What wasn't bound or noted is 0, and no message.
+-- The value of a number for which no cell is read; one that wasn't bound is 0.
 abbrev pub atom_value : Values → Atom → NumberValue
 atom_value v (trace.number n) = number n
 atom_value v trace.peer = peer
@@ -43,6 +45,7 @@ atom_value v (bound n) = slice_index_or v.numbers n (number 0)
 atom_value v (trace.taken_number row k) = taken_number (taken_row v row) k
 atom_value v (trace.value n) = number 0
 
+-- The value of a message for which no cell is read; one that wasn't noted is no message.
 abbrev pub core_value : Values → Core → MessageValue
 core_value v trace.body = body
 core_value v (noted n) = slice_index_or v.messages n nothing
@@ -50,7 +53,7 @@ core_value v (trace.taken_message row carried) = taken_message (taken_row v row)
 core_value v trace.nothing = nothing
 
 abbrev mutual
-  -- The value of an expression where this is known.
+  -- The value of a number, by what is known of bound numbers, notes, takes and writes.
   pub number_value : Values → TraceNumber → NumberValue
   number_value v (atom a) = atom_value v a
   number_value v trace.me = me
@@ -65,6 +68,7 @@ abbrev mutual
   number_value v (trace.apply f a) = apply f (number_value v a)
   number_value v (trace.pick c a b) = pick (number_value v c) (number_value v a) (number_value v b)
 
+  -- The value of a message, by what is known of bound numbers, notes, takes and writes.
   pub message_value : Values → TraceMessage → MessageValue
   message_value v (core c) = core_value v c
   message_value v (trace.held p c e r carried) = held (cell_seen v p c) (number_value v e) (number_value v r) carried
@@ -72,23 +76,27 @@ abbrev mutual
   message_value v (trace.tail m f) = tail (message_value v m) (number_value v f)
   message_value v (trace.join a b) = join (message_value v a) (message_value v b)
 
--- The values of a message after known headers.
+-- A known header, with its fields' values.
 abbrev pub link_value : Values → Link → LinkValue
 link_value v l = record { place = l.place; tag = l.tag; fields = map (atom_value v) l.fields }
 
+-- A message that is sent or stored, with the values of its known headers and of its core.
 abbrev pub chained_value : Values → Chained → ChainedValue
 chained_value v m = record { chain = map (link_value v) m.chain; message = core_value v m.core }
 
--- What is known with a number bound, a message noted, a row taken, a cell written.
+-- What is known with one more bound number of this value.
 abbrev pub with_bound : Values → NumberValue → Values
 with_bound v x = record v { numbers = v.numbers ++ x ∷ [] }
 
+-- What is known with one more noted message of this value.
 abbrev pub with_noted : Values → MessageValue → Values
 with_noted v x = record v { messages = v.messages ++ x ∷ [] }
 
+-- What is known after one more row was taken.
 abbrev pub with_taken : Values → Values
 with_taken v = record v { takes = v.takes + 1 }
 
+-- What is known after one more write to cell c of place p.
 abbrev pub with_written : Values → ℕ → ℕ → Values
 with_written v p c = record v { written = (p, c) ∷ v.written }
 
@@ -115,10 +123,11 @@ act_of v (trace.take p c e) = take p c (number_value v e) ∷ []
 act_of v (trace.output dir kind numbers message) =
     output dir kind (map (atom_value v) numbers) (option_map (chained_value v) message) ∷ []
 
--- Those of operations where so much is known, and those of a trace.
+-- The acts of operations, in order, where so much is known before them.
 abbrev pub acts_of : List Operation → Values → List Act
 acts_of [] v = []
 acts_of (o ∷ os) v = act_of v o ++ acts_of os (known_after v o)
 
+-- The acts of a whole trace, in order: its symbolic list.
 abbrev pub symbolic : List Operation → List Act
 symbolic operations = acts_of operations no_values

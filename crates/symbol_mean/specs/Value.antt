@@ -1,10 +1,10 @@
 -- The values of a trace's expressions. A bound number and a noted message stand in them as their own values; a cell
 -- stands in them as it was after a number of writes; a taken row is told by its number.
 use Rattle.std.specs.Prelude.{ℕ, List, Option}
-use Rattle.layer_ast.specs.declared.tokens.Dir.{Dir}
-use Rattle.layer_ast.specs.declared.tokens.Kind.{Kind}
-use Rattle.layer_ast.specs.declared.syntax.Function.{Function}
-use Rattle.layer_ast.specs.declared.syntax.Operator.{Operator}
+use Rattle.layer_words.specs.declared.events.Dir.{Dir}
+use Rattle.layer_words.specs.declared.events.Kind.{Kind}
+use Rattle.layer_words.specs.declared.operators.Function.{Function}
+use Rattle.layer_words.specs.declared.operators.Operator.{Operator}
 use Rattle.layer_mean.specs.Tree.{Carried}
 
 -- A cell as it is read: how many earlier operations of the trace set it, push on it or take from it.
@@ -43,12 +43,13 @@ mutual
     tail : MessageValue → (from : NumberValue) → MessageValue
     join : MessageValue → MessageValue → MessageValue
 
--- A known header, and a message after such headers.
+-- A known header, with the values of its fields.
 pub record LinkValue : Type 0 where
   pub place : ℕ
   pub tag : ℕ
   pub fields : List NumberValue
 
+-- A message that is sent or stored: known headers, and the value of the message after them.
 pub record ChainedValue : Type 0 where
   pub chain : List LinkValue
   pub message : MessageValue

@@ -4,13 +4,14 @@ use Rattle.std.proofs.Common.{option_to_list, refl, sym, append-nil}
 use Rattle.std.specs.Fmt.{decimal}
 use Rattle.std.specs.Option.{option_map_or}
 use Rattle.std.specs.Prelude.{codes, slice_index_or}
-use Rattle.layer_ast.specs.Spelling.{kind_word}
-use Rattle.layer_ast.specs.Printed.{direction_sign, function_sign, operator_sign}
+use Rattle.layer_words.specs.Spelling.{kind_word}
+use Rattle.layer_words.specs.Signs.{direction_sign, function_sign, operator_sign}
 use Rattle.layer_mean.specs.Headers.{header_of_tag}
 use Rattle.bypass_mean.specs.Text as mean
 use Rattle.bypass_mean.specs.Text.{atom_text, core_text, cell_text, cell_name, bracketed_index, bracketed_list}
 use Rattle.bypass_mean.specs.Text.{number_text}
-use Rattle.bypass_mean.specs.Text.{message_text, line_of, writes, sign_text}
+use Rattle.bypass_mean.specs.Text.{message_text, line_of, writes}
+use Rattle.layer_words.specs.Spelling.{sign_text}
 use Rattle.layer_mean.specs.Tree.{LayerTree}
 use Rattle.synth_print.specs.Headers.{header_called, more_links}
 use Rattle.synth_print.specs.Lines.{bare}

@@ -4,7 +4,7 @@ use Rattle.std.proofs.Common.{arith, true, false}
 use Rattle.std.specs.List.{enumerate_from, flat_map, slice_get}
 use Rattle.bypass_mean.specs.Bypasses as mean
 use Rattle.bypass_mean.specs.Lines.{ended_line, entry_traces, file_lines, plan_name, plans_traces, trace_lines}
-use Rattle.layer_ast.specs.declared.tokens.Kind.TheVariants.{Cast}
+use Rattle.layer_words.specs.declared.events.Kind.TheVariants.{Cast}
 use Rattle.layer_mean.specs.Tree.{LayerTree}
 use Rattle.stack_mean.specs.Plan.{Plan}
 use Rattle.synth_print.specs.Entries.{name_text}

@@ -1,7 +1,7 @@
 -- Layers and cells as lines name them.
 use Rattle.std.specs.Prelude.{Bool, true, false, Option, Some, None, option_map}
 use denote.Ref.{Bor}
-use Rattle.layer_ast.specs.declared.syntax.Shape.TheVariants.{One}
+use Rattle.layer_words.specs.declared.sorts.Shape.TheVariants.{One}
 use Rattle.layer_mean.specs.Tree.{Form, numbers, queue, CellTree, LayerTree, no_layer}
 use Rattle.typed_layer.specs.View.{cell_tree, layer_tree}
 use Rattle.typed_layer.specs.declared.tree.Cell.{Cell}

@@ -2,8 +2,8 @@
 use Rattle.std.specs.Prelude.{ℕ, List}
 use Rattle.bypass_mean.specs.Text as mean
 use Rattle.bypass_mean.specs.Text.{cell_text, line_of, number_text, message_text}
-use Rattle.event_graph.specs.Answer.{stack_tree}
-use Rattle.event_graph.specs.declared.stack.Stack.{Stack}
+use Rattle.stack_judge.specs.Answer.{stack_tree}
+use Rattle.stack_judge.specs.declared.stack.Stack.{Stack}
 use Rattle.layer_mean.specs.Tree.{LayerTree}
 use Rattle.synth_print.specs.Source.{nodes_in}
 use Rattle.synth_print.specs.Written.{written_first, written_tree}

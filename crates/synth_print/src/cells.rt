@@ -3,16 +3,16 @@
 ghost use Rattle.std.specs.Prelude.{◌≡◌, ◌++◌, [], OnOk, slice_get, slice_index_or};
 ghost use Rattle.std.specs.Option.{option_map_or};
 ghost use Rattle.bypass_mean.specs.Text.{cell_name, layer_of, numbers_called};
-ghost use Rattle.event_graph.specs.Answer.{stack_tree};
+ghost use Rattle.stack_judge.specs.Answer.{stack_tree};
 ghost use Rattle.layer_mean.specs.Tree.{CellTree};
 ghost use Rattle.synth_print.specs.Cells.{cell_shown, form_shown, is_single, layer_or_none};
 ghost use Rattle.trace_mean.specs.Fuse.{form_at};
 ghost use Rattle.typed_layer.specs.View.{items_tree};
 
-use event_graph::Stack;
-use layer_ast::Shape;
+use layer_words::Shape;
 use msg_core::Memory;
 use report_lines::Line;
+use stack_judge::Stack;
 use typed_layer::{Cell, Form, Items, TypedLayer};
 
 /// The layer at a place, if there is one.

@@ -3,7 +3,7 @@
 ghost use Rattle.std.specs.Prelude.{◌≡◌, ◌+◌, ◌^◌, ◌<◌, ◌≤◌, ◌++◌, [], IfOk, OnOk, codes, length};
 ghost use Rattle.std.specs.Fmt.{decimal};
 ghost use Rattle.bypass_mean.specs.Text.{message_text, nothing_written, with_note};
-ghost use Rattle.event_graph.specs.Answer.{stack_tree};
+ghost use Rattle.stack_judge.specs.Answer.{stack_tree};
 ghost use Rattle.synth_print.specs.Lines.{done_lines, done_text, follows, line_if, message_of, noted_text, opening};
 ghost use Rattle.synth_print.specs.Lines.{operation_of, with_row};
 ghost use Rattle.synth_print.specs.Source.{nodes_in};
@@ -19,9 +19,9 @@ use crate::operations::push_operation;
 use crate::scope::Scope;
 use crate::source::Source;
 use crate::written::{Note, Spot, Written};
-use event_graph::Stack;
 use msg_core::Memory;
 use report_lines::Line;
+use stack_judge::Stack;
 use std::alloc::Global;
 use trace_core::Operation;
 

@@ -3,7 +3,7 @@
 ghost use Rattle.std.specs.Prelude.{◌≡◌, ◌++◌, ◌∷◌, [], OnOk, codes, option_map};
 ghost use Rattle.std.specs.Fmt.{decimal};
 ghost use Rattle.bypass_mean.specs.Lines.{ended_line, guarded_lines, made_lines, reason_text};
-ghost use Rattle.event_graph.specs.Answer.{stack_tree};
+ghost use Rattle.stack_judge.specs.Answer.{stack_tree};
 ghost use Rattle.outside.specs.Lines.{Wrote};
 ghost use Rattle.outside.specs.Tells.{tells_of};
 ghost use Rattle.shape_core.specs.Cases.{reason_tree};
@@ -15,11 +15,11 @@ ghost use Rattle.trace_core.specs.Trees.{guarded_tree};
 use crate::handler::write_handler;
 use crate::name::{Case, Name};
 use crate::pen::Pen;
-use event_graph::Stack;
 use msg_core::Memory;
 use outside::{Sink, SinkError, put_line};
 use report_lines::Line;
 use shape_core::Absent;
+use stack_judge::Stack;
 use trace_core::{Cases, Guarded, Made};
 
 /// What an entry is called.

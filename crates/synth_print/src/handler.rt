@@ -5,7 +5,7 @@ ghost use Rattle.std.specs.Fmt.{decimal};
 ghost use Rattle.std.specs.List.{enumerate_from, flat_map, slice_get};
 ghost use Rattle.bypass_mean.specs.Lines.{conjunct_line, ended_line, guarded_lines};
 ghost use Rattle.bypass_mean.specs.Text.{nothing_written, number_text, operation_lines};
-ghost use Rattle.event_graph.specs.Answer.{stack_tree};
+ghost use Rattle.stack_judge.specs.Answer.{stack_tree};
 ghost use Rattle.outside.specs.Lines.{Wrote};
 ghost use Rattle.outside.specs.Tells.{tells_of};
 ghost use Rattle.synth_print.specs.Lines.{all_done, conjunct_turn, done_lines, ended_lines, follows, handler_in};
@@ -24,10 +24,10 @@ use crate::pen::Pen;
 use crate::scope::Scope;
 use crate::source::{Nodes, Source, Stacked};
 use crate::written::Written;
-use event_graph::Stack;
 use msg_core::Memory;
 use outside::{Sink, SinkError, put_line};
 use report_lines::Line;
+use stack_judge::Stack;
 use trace_core::{Guarded, Operation, Trace};
 
 /// Builds the line of an entry value, before which nothing was written.

@@ -2,7 +2,7 @@
 
 ghost use Rattle.std.specs.Prelude.{◌≡◌, ◌++◌, [], OnOk, slice_get, slice_index_or};
 ghost use Rattle.bypass_mean.specs.Text.{atom_text, following, link_text, pushed_text};
-ghost use Rattle.event_graph.specs.Answer.{stack_tree};
+ghost use Rattle.stack_judge.specs.Answer.{stack_tree};
 ghost use Rattle.layer_mean.specs.Headers.{header_of_tag};
 ghost use Rattle.synth_print.specs.Cells.{layer_or_none};
 ghost use Rattle.synth_print.specs.Headers.{atom_texts, header_called, header_front, comma_list, more_links};
@@ -14,9 +14,9 @@ use crate::atoms::push_atom;
 use crate::cells::layer_at;
 use crate::numbers::push_core;
 use crate::scope::Scope;
-use event_graph::Stack;
 use msg_core::Memory;
 use report_lines::{Line, push_lead};
+use stack_judge::Stack;
 use trace_core::{Atoms, Chained, Link};
 use typed_layer::TypedLayer;
 

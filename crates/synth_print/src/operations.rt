@@ -3,7 +3,7 @@
 ghost use Rattle.std.specs.Prelude.{◌≡◌, ◌++◌, [], true, OnOk, codes, length, option_map};
 ghost use Rattle.std.specs.Option.{option_map_or};
 ghost use Rattle.bypass_mean.specs.Text.{cell_name, bracketed_index};
-ghost use Rattle.layer_ast.specs.Printed.{direction_sign};
+ghost use Rattle.layer_words.specs.Signs.{direction_sign};
 ghost use Rattle.synth_print.specs.Headers.{atom_texts, comma_list};
 ghost use Rattle.synth_print.specs.Operations.{after_of, core_of, is_change, last_part, listed_cores, listed_rows};
 ghost use Rattle.synth_print.specs.Operations.{number_texts, pushed_of};
@@ -15,9 +15,8 @@ use crate::cells::push_cell_name;
 use crate::headers::{push_after, push_atoms, push_chained};
 use crate::numbers::{push_cell, push_core, push_indexed, push_number};
 use crate::scope::Scope;
-use crate::words::{direction_text, kind_text};
 use crate::written::{Indexes, Spot};
-use layer_ast::{Dir, Kind};
+use layer_words::{Dir, Kind};
 use msg_core::{Fields, Memory};
 use report_lines::{Line, push_lead};
 use trace_core::{Atoms, Chained, Operation};
@@ -286,9 +285,9 @@ fn push_output(
         (line.new ≡ line.old ++ operation_text scope.now (operations.Output way.dir way.kind numbers.now message)) }
 {
     line.text(b"out ")?;
-    line.text(direction_text(way.dir))?;
+    line.text(way.dir.word().as_bytes())?;
     line.text(b" ")?;
-    line.text(kind_text(way.kind))?;
+    line.text(way.kind.word().as_bytes())?;
     push_arguments(line, scope, numbers, message)?;
     push_output_headers(line, scope, message)
 }

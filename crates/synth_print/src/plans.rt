@@ -3,7 +3,7 @@
 ghost use Rattle.std.specs.Prelude.{◌≡◌, ◌+◌, ◌^◌, ◌<◌, ◌++◌, ◌∷◌, [], OnOk, codes, drop, length, slice_get, take};
 ghost use Rattle.std.specs.List.{join_by};
 ghost use Rattle.std.specs.Option.{option_map_or};
-ghost use Rattle.event_graph.specs.Answer.{stack_tree};
+ghost use Rattle.stack_judge.specs.Answer.{stack_tree};
 ghost use Rattle.stack_shapes.specs.Lists.{plan_tree};
 ghost use Rattle.synth_print.specs.Cells.{layer_or_none};
 ghost use Rattle.synth_print.specs.Entries.{all_headers, more_headers, more_planned, plan_text, field_text};
@@ -15,9 +15,9 @@ use crate::entries::push_name;
 use crate::headers::push_front;
 use crate::name::Name;
 use crate::words::packet_text;
-use event_graph::Stack;
 use msg_core::Memory;
 use report_lines::Line;
+use stack_judge::Stack;
 use stack_shapes::Plan;
 use typed_layer::TypedLayer;
 

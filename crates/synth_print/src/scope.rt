@@ -2,7 +2,7 @@
 
 use crate::source::Source;
 use crate::written::Written;
-use event_graph::Stack;
+use stack_judge::Stack;
 
 /// Operations of a stack, what those so far have left, and how many of the taken rows and of the noted messages may be
 /// named.

@@ -6,7 +6,7 @@ ghost use Rattle.synth_print.specs.Source.{nodes_in};
 ghost use Rattle.trace_core.specs.Arena.{IsBelow};
 ghost use Rattle.trace_core.specs.View.{term_of, terms};
 
-use event_graph::Stack;
+use stack_judge::Stack;
 use trace_core::{Arena, Links, Node, Operation, Shared};
 
 /// The nodes of a trace, or those of a guarded handler.

@@ -1,13 +1,12 @@
-//! Symbols and words of operators, functions, directions and kinds.
-#![tactic(auto, unfolding(layer_ast::specs::Spelling::tables))]
+//! Symbols and words of operators and functions, and what packets of a kind are called.
+#![tactic(auto, unfolding(layer_words::specs::Spelling::tables))]
 
 ghost use Rattle.std.specs.Prelude.{◌≡◌, ◌++◌, codes};
 ghost use Rattle.bypass_mean.specs.Lines.{packet_word};
-ghost use Rattle.bypass_mean.specs.Text.{sign_text};
-ghost use Rattle.layer_ast.specs.Spelling.{kind_word};
-ghost use Rattle.layer_ast.specs.Printed.{direction_sign, function_sign, operator_sign};
+ghost use Rattle.layer_words.specs.Spelling.{sign_text};
+ghost use Rattle.layer_words.specs.Signs.{function_sign, operator_sign};
 
-use layer_ast::{Dir, Function, Kind, Operator};
+use layer_words::{Function, Kind, Operator};
 
 /// What stands between the two numbers of an operator.
 pub(crate) fn operator_between(operator: Operator) -> &'static [u8]
@@ -40,36 +39,6 @@ pub(crate) fn function_opening(function: Function) -> &'static [u8]
         Function::Bit => b"bit(",
         Function::Count => b"count(",
         Function::Lowest => b"lowest(",
-    }
-}
-
-/// The word of a direction.
-pub(crate) fn direction_text(dir: Dir) -> &'static [u8]
-    ensures { result.now ≡ sign_text (direction_sign dir) }
-{
-    match dir {
-        Dir::Up => b"up",
-        Dir::Down => b"down",
-    }
-}
-
-/// The word of a kind of event.
-pub(crate) fn kind_text(kind: Kind) -> &'static [u8]
-    ensures { result.now ≡ kind_word kind }
-{
-    match kind {
-        Kind::Cast => b"Cast",
-        Kind::Send => b"Send",
-        Kind::Timer => b"Timer",
-        Kind::Suspect => b"Suspect",
-        Kind::Stable => b"Stable",
-        Kind::Ack => b"Ack",
-        Kind::Elect => b"Elect",
-        Kind::Block => b"Block",
-        Kind::BlockOk => b"BlockOk",
-        Kind::Flushed => b"Flushed",
-        Kind::View => b"View",
-        Kind::Leave => b"Leave",
     }
 }
 

@@ -4,9 +4,9 @@ use Rattle.std.proofs.Common.{Some, None, is_some, refl, sym, subst}
 use Rattle.std.specs.Prelude.{if◌then◌else◌, MatchBool, IsSomeAnd, slice_index}
 use Rattle.msg_core.specs.Chain.{Content}
 use Rattle.msg_core.specs.declared.message.Header.{Header}
-use Rattle.layer_ast.specs.declared.tokens.Dir.{Dir}
-use Rattle.layer_ast.specs.declared.tokens.Dir.TheVariants.{Up, Down}
-use Rattle.layer_ast.specs.declared.tokens.Kind.{Kind}
+use Rattle.layer_words.specs.declared.events.Dir.{Dir}
+use Rattle.layer_words.specs.declared.events.Dir.TheVariants.{Up, Down}
+use Rattle.layer_words.specs.declared.events.Kind.{Kind}
 use Rattle.layer_mean.specs.declared.run.Event.{Event}
 use Rattle.layer_mean.specs.Event.{carries, event_of}
 use Rattle.layer_mean.specs.Headers.{header_of_tag}

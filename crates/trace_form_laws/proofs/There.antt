@@ -4,10 +4,10 @@ use Rattle.std.proofs.Common.{option_map, refl, ap, subst, inl, inr}
 use Rattle.std.specs.Prelude.{if◌then◌else◌, ◌==◌, Ok, Err}
 use Rattle.std.specs.List.{AllByRecursion}
 use Rattle.std.specs.Option.{option_map_or}
-use Rattle.layer_ast.specs.declared.tokens.Dir.{Dir}
-use Rattle.layer_ast.specs.declared.tokens.Dir.TheVariants.{Up, Down}
-use Rattle.layer_ast.specs.declared.syntax.Likely.TheVariants as likely
-use Rattle.layer_ast.specs.declared.syntax.Operator.TheVariants.{Less}
+use Rattle.layer_words.specs.declared.events.Dir.{Dir}
+use Rattle.layer_words.specs.declared.events.Dir.TheVariants.{Up, Down}
+use Rattle.layer_words.specs.declared.sorts.Likely.TheVariants as likely
+use Rattle.layer_words.specs.declared.operators.Operator.TheVariants.{Less}
 use Rattle.layer_mean.specs.declared.run.Case.{Case}
 use Rattle.layer_mean.specs.declared.run.Case.TheVariants.{First, Second}
 use Rattle.layer_mean.specs.Tree as tree
@@ -20,9 +20,9 @@ use Rattle.stack_mean.specs.NoShape.{NoShape}
 use Rattle.stack_mean.specs.NoShape as no_shape
 use Rattle.weight_laws.proofs.Nodes.{found}
 use Rattle.chain_laws.proofs.Lists.{each_append}
-use Rattle.file_laws.specs.Named as named
-use Rattle.file_laws.specs.Named.{NamedMessage, NamesRows, NamesQueue, NamedOption, NamedContent, NamedStatement}
-use Rattle.file_laws.specs.Named.{NamedAll, NamedExpected, slots_of, NamedHandler, NamedStack}
+use Rattle.chain_laws.specs.Named as named
+use Rattle.chain_laws.specs.Named.{NamedMessage, NamesRows, NamesQueue, NamedOption, NamedContent, NamedStatement}
+use Rattle.chain_laws.specs.Named.{NamedAll, NamedExpected, slots_of, NamedHandler, NamedStack}
 use Rattle.trace_mean.specs.Trace as trace
 use Rattle.trace_mean.specs.Trace.{Atom, Core, TraceNumber, TraceMessage, Link, Chained, Operation, bind, note}
 use Rattle.trace_mean.specs.Scope.{Names, Worded, traced_number, traced_message}

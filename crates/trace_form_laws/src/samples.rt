@@ -1,5 +1,5 @@
 //! The counts at a small stack, by evaluation.
-#![tactic(auto, unfolding(trace_mean::specs::Fuse::made_trace, layer_ast::specs::Spelling::kinds))]
+#![tactic(auto, unfolding(trace_mean::specs::Fuse::made_trace, layer_words::specs::Spelling::kinds))]
 
 ghost use Rattle.trace_form_laws.specs.Samples.{JoinsAreMet};
 

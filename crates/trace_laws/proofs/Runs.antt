@@ -4,8 +4,8 @@ use Rattle.std.proofs.Common.{Option, Some, None, refl, sym, ap, ◌∙◌, subs
 use Rattle.std.specs.Prelude.{if◌then◌else◌, ◌==◌, ◌&&◌, nat_lt, nat_le, Result, Ok, Err}
 use Rattle.std.proofs.lemmas.List.{map-append}
 use Rattle.std.proofs.lemmas.Bool.{leb-false}
-use Rattle.layer_ast.specs.declared.tokens.Dir.{Dir}
-use Rattle.layer_ast.specs.declared.tokens.Dir.TheVariants.{Up, Down}
+use Rattle.layer_words.specs.declared.events.Dir.{Dir}
+use Rattle.layer_words.specs.declared.events.Dir.TheVariants.{Up, Down}
 use Rattle.layer_mean.specs.declared.run.Case.{Case}
 use Rattle.layer_mean.specs.declared.run.Event.{Event}
 use Rattle.layer_mean.specs.Tree.{HandlerTree, LayerTree}

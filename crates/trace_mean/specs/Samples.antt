@@ -1,8 +1,8 @@
 -- Traces of small stacks, made and followed by evaluation.
 use Rattle.std.specs.Prelude.{◌≡◌, ℕ, ⊤, List, [], ◌∷◌, length, Option, Some, None, Result, Ok, Err, codes}
-use Rattle.layer_ast.specs.declared.tokens.Dir.TheVariants.{Up, Down}
-use Rattle.layer_ast.specs.declared.tokens.Kind.TheVariants.{Cast, Send}
-use Rattle.layer_ast.specs.declared.syntax.Operator.TheVariants.{Add, Equal, Less, Greater, And, BitAnd}
+use Rattle.layer_words.specs.declared.events.Dir.TheVariants.{Up, Down}
+use Rattle.layer_words.specs.declared.events.Kind.TheVariants.{Cast, Send}
+use Rattle.layer_words.specs.declared.operators.Operator.TheVariants.{Add, Equal, Less, Greater, And, BitAnd}
 use Rattle.layer_mean.specs.Tree as tree
 use Rattle.layer_mean.specs.Tree.{part, local, message, none, always, queue, queues, LayerTree}
 use Rattle.layer_mean.specs.declared.run.Case.TheVariants.{First, Second}
@@ -32,15 +32,19 @@ unfoldable pub evaluated : ⊤
 unfolding step has_second_case made_trace follow
 evaluated = tt
 
+-- A literal.
 abbrev pub lit : ℕ → TraceNumber
 lit n = atom (number n)
 
+-- Number c of the layer at place p, a cell without an index.
 abbrev pub cell : ℕ → ℕ → TraceNumber
 cell p c = element p c (lit 0)
 
+-- A known header: its place, its tag, and its fields.
 abbrev pub link : ℕ → ℕ → List Atom → Link
 link p tag fields = record { place = p; tag = tag; fields = fields }
 
+-- A message that is sent or stored, with its known headers.
 abbrev pub with_chain : List Link → Core → Option Chained
 with_chain chain c = Some (record { chain = chain; core = c })
 
@@ -77,13 +81,16 @@ KeptTrace = trace_of First keeping_stack app_cast [] ≡ Ok
     (link 0 1 (bound 9 ∷ []) ∷ link 1 1 (bound 6 ∷ []) ∷ link 2 0 [] ∷ link 3 1 (bound 1 ∷ bound 2 ∷ []) ∷ []) body) ∷
     [])
 
+-- That trace has twenty operations.
 abbrev pub KeptLength : Type 0
 KeptLength = drawn_from (λ ops. Ok (length ops)) (trace_of First keeping_stack app_cast []) ≡ Ok 20
 
--- A layer with two common cases.
+-- The condition that the layer's count is odd.
 abbrev pub odd : TraceNumber
 odd = binary Equal (binary BitAnd (cell 0 0) (lit 1)) (lit 1)
 
+-- A layer with two common cases: its cast has a trace in each, with a check and a header of its own; its send has no
+-- second case.
 abbrev pub FlipTraces : Type 0
 FlipTraces =
     (trace_of First (flip ∷ []) app_cast [] ≡ Ok
@@ -95,22 +102,25 @@ FlipTraces =
     output Down Cast (bound 0 ∷ []) (with_chain (link 0 2 (bound 1 ∷ []) ∷ []) body) ∷ [])) ×
     (trace_of Second (flip ∷ []) app_send [] ≡ Err no_shape.same)
 
+-- There is no trace where a layer sends a message that was stored, nor for a packet that no handler takes.
 abbrev pub NoTraces : Type 0
 NoTraces =
     (trace_of First (bottom ∷ surprised_layer ∷ late ∷ []) app_cast [] ≡ Err (no_shape.stored 2)) ×
     (trace_of First (flip ∷ []) (packet_entry Cast (1 ∷ [])) (None ∷ []) ≡ Err (no_shape.rare 0))
 
--- The counter's cast followed by the first of two members, and a packet that comes too early, which stops at the first
--- check.
+-- The first of two members casts one byte.
 abbrev pub first_input : Input
 first_input = record { me = 0; count = 2; ltime = 0; peer = 0; fields = []; body = codes "x" }
 
+-- Member 1's packet of number 5 comes, where 0 is due.
 abbrev pub early_input : Input
 early_input = record first_input { peer = 1; fields = 5 ∷ [] }
 
+-- The counter's state at the first of two members, after n casts of its own.
 abbrev pub counting : ℕ → State
 counting n = record (fresh counter 0 2 0) { cells = state.numbers (n ∷ []) ∷ state.numbers (0 ∷ 0 ∷ []) ∷ [] }
 
+-- The cast of number n of the counter as it leaves the stack, with these bytes as its body.
 abbrev pub cast_of : ℕ → List ℕ → Event
 cast_of n text = record {
   kind = Cast;
@@ -120,9 +130,12 @@ cast_of n text = record {
   message = Some (record { headers = record { layer = 0; tag = 1; fields = n ∷ [] } ∷ []; body = text });
 }
 
+-- A trace, if there is one, followed from one layer's state on.
 abbrev pub followed_trace : Input → State → Result (List Operation) NoShape → Result Answer NoShape
 followed_trace i s = drawn_from (λ operations. Ok (follow i operations (s ∷ [])))
 
+-- The counter's cast followed by the first of two members, and a packet that comes too early, which stops at the first
+-- check.
 abbrev pub CounterFollowed : Type 0
 CounterFollowed =
     (followed_trace first_input (fresh counter 0 2 0) (trace_of First (counter ∷ []) app_cast []) ≡
@@ -141,10 +154,11 @@ NotedTrace = trace_of First (parting ∷ []) app_cast [] ≡ Ok
     output Down Cast (bound 0 ∷ []) (with_chain (link 0 1 [] ∷ []) (noted 1)) ∷
     output Down Cast (bound 1 ∷ []) (with_chain (link 0 1 [] ∷ []) (noted 2)) ∷ [])
 
+-- That trace counts for eight operations, without its notes.
 abbrev pub NotedLength : Type 0
 NotedLength = drawn_from (λ ops. Ok (trace_length ops)) (trace_of First (parting ∷ []) app_cast []) ≡ Ok 8
 
--- A number and a part are kept and taken back, and the part is put before the message that is sent.
+-- A layer that keeps a number and a part of its cast, takes them back, and sends the part before the cast's body.
 abbrev pub joiner : LayerTree
 joiner = record {
   name = codes "joiner";
@@ -158,9 +172,11 @@ joiner = record {
       (block (sends Down Cast (local 1) (tree.join (message 1) (message 0)) 0 [] ∷ [])) none ∷ []) ∷ [];
 }
 
+-- The trace of its cast.
 abbrev pub joiner_trace : Result (List Operation) NoShape
 joiner_trace = trace_of First (joiner ∷ []) app_cast []
 
+-- A number and a part are kept and taken back, and the part is put before the message that is sent.
 abbrev pub JoinedTrace : Type 0
 JoinedTrace = joiner_trace ≡ Ok
     (check (binary Less (rows 0 0 (lit 0)) (lit 4)) ∷ note (cut (core body) (lit 0) (lit 2)) ∷
@@ -177,10 +193,11 @@ JoinedCounts =
     (drawn_from (λ ops. Ok (trace_joins ops)) joiner_trace ≡ Ok 1) ×
     (drawn_from (λ ops. Ok (trace_outputs ops)) joiner_trace ≡ Ok 1)
 
--- Followed, it sends what it took before what it was given, and leaves its queue empty.
+-- The first of two members casts three bytes.
 abbrev pub abc : Input
 abc = record first_input { body = codes "abc" }
 
+-- Followed, it sends what it took before what it was given, and leaves its queue empty.
 abbrev pub JoinedFollowed : Type 0
 JoinedFollowed = followed_trace abc (fresh joiner 0 2 0) joiner_trace ≡ Ok (reached (fresh joiner 0 2 0 ∷ []) ((
   Down,
@@ -193,7 +210,7 @@ JoinedFollowed = followed_trace abc (fresh joiner 0 2 0) joiner_trace ≡ Ok (re
   },
 ) ∷ []))
 
--- A queue for each member is told with its index, also where that is written as 0.
+-- A layer with a queue for each member, which pushes on the caster's and takes from the first member's.
 abbrev pub keeper : LayerTree
 keeper = record {
   name = codes "keeper";
@@ -205,6 +222,7 @@ keeper = record {
       (block (sends Down Cast (local 1) (message 0) 0 [] ∷ [])) none ∷ []) ∷ [];
 }
 
+-- A queue for each member is told with its index, also where that is written as 0.
 abbrev pub KeeperTrace : Type 0
 KeeperTrace = trace_of First (keeper ∷ []) app_cast [] ≡ Ok
     (check (binary And (binary Less (atom peer) count) (binary Less (rows 0 0 (atom peer)) (lit 4))) ∷
@@ -212,7 +230,7 @@ KeeperTrace = trace_of First (keeper ∷ []) app_cast [] ≡ Ok
     check (binary Greater (rows 0 0 (lit 0)) (lit 0)) ∷ take 0 0 (lit 0) ∷
     bind (atom (taken_number 0 0)) ∷ output Down Cast (bound 0 ∷ []) (with_chain (link 0 0 [] ∷ []) body) ∷ [])
 
--- A part that is held is sent, and then its row is taken.
+-- A layer that sends the part in the first row of its queue, and then takes that row.
 abbrev pub leaver : LayerTree
 leaver = record {
   name = codes "leaver";
@@ -223,6 +241,7 @@ leaver = record {
       tree.take 0 (tree.number 0) (record { numbers = []; message = None }) none none ∷ []) ∷ [];
 }
 
+-- A part that is held is noted where it is sent, and then its row is taken.
 abbrev pub LeaverTrace : Type 0
 LeaverTrace = trace_of First (leaver ∷ []) app_cast [] ≡ Ok
     (bind (atom peer) ∷ note (held 0 0 (lit 0) (lit 0) part) ∷ check (binary Greater (rows 0 0 (lit 0)) (lit 0)) ∷
@@ -235,12 +254,15 @@ noted_late = bind (atom peer) ∷ check (binary Greater (rows 0 0 (lit 0)) (lit 
     note (held 0 0 (lit 0) (lit 0) part) ∷ output Down Cast (bound 0 ∷ []) (with_chain (link 0 0 [] ∷ []) (noted 0)) ∷
     []
 
+-- That layer's state with these rows in its queue.
 abbrev pub leaving : List Row → State
 leaving kept = record (fresh leaver 0 2 0) { cells = state.queues (kept ∷ []) ∷ [] }
 
+-- A row with a part of two bytes.
 abbrev pub kept_part : Row
 kept_part = record { numbers = []; message = Some (plain (codes "ab")) }
 
+-- The answer where a cast with these bytes is sent, and the queue is empty then.
 abbrev pub left_with : List ℕ → Answer
 left_with text = reached (leaving [] ∷ []) ((
   Down,
@@ -253,6 +275,7 @@ left_with text = reached (leaving [] ∷ []) ((
   },
 ) ∷ [])
 
+-- Followed, the trace sends the held part; with the note after the take it sends nothing of it.
 abbrev pub LeaverFollowed : Type 0
 LeaverFollowed =
     (followed_trace first_input (leaving (kept_part ∷ [])) (trace_of First (leaver ∷ []) app_cast []) ≡

@@ -12,13 +12,13 @@ use Rattle.std.proofs.lemmas.Nat.{same_from_place}
 use Rattle.std.proofs.lemmas.Option.{slice_get_read}
 use Rattle.std.proofs.Math.Dec.{eqb}
 use denote.Enum.Declared.{tag_of}
-use Rattle.layer_ast.specs.declared.tokens.Dir.{Dir}
-use Rattle.layer_ast.specs.declared.tokens.Kind.{Kind}
-use Rattle.layer_ast.specs.declared.tokens.Kind.TheVariants.{Cast, Send, Timer, Suspect, Stable, Ack, Elect, Block}
-use Rattle.layer_ast.specs.declared.tokens.Kind.TheVariants.{BlockOk, Flushed, View, Leave}
-use Rattle.layer_ast.specs.declared.tokens.Dir.TheVariants.{Up, Down}
-use Rattle.layer_ast.specs.contracts.tokens.Dir as dir_row
-use Rattle.layer_ast.specs.contracts.tokens.Kind as kind_row
+use Rattle.layer_words.specs.declared.events.Dir.{Dir}
+use Rattle.layer_words.specs.declared.events.Kind.{Kind}
+use Rattle.layer_words.specs.declared.events.Kind.TheVariants.{Cast, Send, Timer, Suspect, Stable, Ack, Elect, Block}
+use Rattle.layer_words.specs.declared.events.Kind.TheVariants.{BlockOk, Flushed, View, Leave}
+use Rattle.layer_words.specs.declared.events.Dir.TheVariants.{Up, Down}
+use Rattle.layer_words.specs.contracts.events.Dir as dir_row
+use Rattle.layer_words.specs.contracts.events.Kind as kind_row
 use Rattle.layer_mean.specs.Visit.{is_for}
 use Rattle.typed_layer.specs.declared.tree.Handler.{Handler}
 use Rattle.typed_layer.specs.View.{handler_tree}

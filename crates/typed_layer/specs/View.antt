@@ -24,12 +24,12 @@ use Rattle.typed_layer.specs.declared.tree.HeaderForm.{HeaderForm}
 use Rattle.typed_layer.specs.declared.tree.ItemMessage.{ItemMessage}
 use Rattle.typed_layer.specs.declared.tree.Items.{Items}
 use Rattle.typed_layer.specs.declared.tree.MessageExpression as rust_message
-use Rattle.typed_layer.specs.declared.tree.Row.{Row}
+use Rattle.typed_layer.specs.declared.tree.RowExpression.{RowExpression}
 use Rattle.typed_layer.specs.declared.tree.Statement.{Statement, Statement-F}
-use Rattle.typed_layer.specs.declared.tree.Statement.TheOpen.{Block-F, Bind, Set, SetElement, SetSquare, Push, Take}
-use Rattle.typed_layer.specs.declared.tree.Statement.TheOpen.{Branch, Each, Emit}
+use Rattle.typed_layer.specs.declared.tree.Statement.TheOpen.{StatementBlock-F, Bind, Set, SetElement, SetSquare, Push}
+use Rattle.typed_layer.specs.declared.tree.Statement.TheOpen.{Take, Branch, Each, Emit}
 use Rattle.typed_layer.specs.declared.tree.Statement.TheFolds.{fold-Statement}
-use Rattle.typed_layer.specs.declared.tree.Block.{Block}
+use Rattle.typed_layer.specs.declared.tree.StatementBlock.{StatementBlock}
 use Rattle.typed_layer.specs.declared.tree.Taken.{Taken}
 use Rattle.typed_layer.specs.declared.tree.TakenMessage.{TakenMessage}
 use Rattle.typed_layer.specs.declared.tree.TypedLayer.{TypedLayer}
@@ -73,7 +73,7 @@ abbrev mutual
   message_tree (rust_message.Tail' _ message _ from) = tree.tail (message_tree message) (expression_tree from)
   message_tree (rust_message.Join' _ first _ second) = tree.join (message_tree first) (message_tree second)
 
-abbrev pub row_tree : Row → RowTree
+abbrev pub row_tree : RowExpression → RowTree
 row_tree r = record { numbers = map expression_tree r.numbers; message = option_map message_tree r.message }
 
 abbrev pub taken_tree : Taken → TakenTree
@@ -113,14 +113,14 @@ statement_of (Branch likely condition block otherwise) = branch likely (expressi
 statement_of (Each slot below most block) = each slot (expression_tree below) most block
 statement_of (Emit emission) = emit (emission_tree emission)
 
-abbrev pub block_of : Block-F StatementTree StatementTrees → StatementTrees
+abbrev pub block_of : StatementBlock-F StatementTree StatementTrees → StatementTrees
 block_of block = trees block.statements.items
 
 abbrev pub statement_tree : Statement → StatementTree
 statement_tree = fold-Statement StatementTree StatementTrees statement_of block_of
 
 -- The statements of a block.
-abbrev pub block_tree : Block → StatementTrees
+abbrev pub block_tree : StatementBlock → StatementTrees
 block_tree block = trees (map statement_tree block.statements.items)
 
 abbrev pub expected_tree : rust_expected.Expected → tree.Expected

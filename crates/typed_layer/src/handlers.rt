@@ -8,7 +8,7 @@ ghost use Rattle.typed_layer.specs.View.{handler_tree};
 ghost use Rattle.typed_layer.specs.Table.{IsTagged, code, handler_code, table_from};
 
 use crate::tree::Handler;
-use layer_ast::{Dir, Kind};
+use layer_words::{Dir, Kind};
 use std::alloc::{AllocError, Global};
 use std::marker::Model;
 

@@ -11,8 +11,8 @@ mod typed;
 pub use handlers::{Handlers, MOST_HANDLERS};
 pub use operators::{applied, applied_to};
 pub use tree::{
-    Blank, Block, Carried, Cell, Content, Emission, Expected, Expression, Form, Handler,
-    HeaderForm, ItemMessage, Items, MessageExpression, Numbers, Row, Statement, Taken,
-    TakenMessage, TypedLayer,
+    Blank, Carried, Cell, Content, Emission, Expected, Expression, Form, Handler, HeaderForm,
+    ItemMessage, Items, MessageExpression, Numbers, RowExpression, Statement, StatementBlock,
+    Taken, TakenMessage, TypedLayer,
 };
 pub use typed::Typed;

@@ -4,7 +4,7 @@ ghost use Rattle.std.specs.Prelude.{◌≤◌};
 ghost use Rattle.msg_core.specs.Headers.{most_fields};
 
 use crate::handlers::Handlers;
-use layer_ast::{Dir, Function, Kind, Likely, Operator, Shape, Word};
+use layer_words::{Dir, Function, Kind, Likely, Operator, Shape, Word};
 use std::marker::Model;
 
 /// A layer at its place. Names are kept for reports alone.
@@ -88,7 +88,7 @@ pub struct Handler {
     pub expected: Expected,
     pub numbers: u8,
     pub messages: u8,
-    pub block: Block,
+    pub block: StatementBlock,
 }
 
 /// When a handler goes as predicted.
@@ -104,7 +104,7 @@ pub enum Expected {
 /// Statements in order.
 #[cycle(statement)]
 #[derive(Drop)]
-pub struct Block {
+pub struct StatementBlock {
     pub statements: Vec<Statement>,
 }
 
@@ -140,30 +140,30 @@ pub enum Statement {
         cell: u8,
         index: Expression,
         capacity: u8,
-        row: Row,
-        otherwise: Block,
+        row: RowExpression,
+        otherwise: StatementBlock,
     },
     /// Takes the front row of a queue and runs a block, or another where there is none.
     Take {
         cell: u8,
         index: Expression,
         taken: Taken,
-        block: Block,
-        otherwise: Block,
+        block: StatementBlock,
+        otherwise: StatementBlock,
     },
     /// Runs one of two blocks by a condition.
     Branch {
         likely: Likely,
         condition: Expression,
-        block: Block,
-        otherwise: Block,
+        block: StatementBlock,
+        otherwise: StatementBlock,
     },
     /// Runs a block for 0, 1 and so on, below a number and a maximum; a slot tells the block which.
     Each {
         slot: u8,
         below: Expression,
         most: u8,
-        block: Block,
+        block: StatementBlock,
     },
     /// Sends an event.
     Emit(Emission),
@@ -171,7 +171,7 @@ pub enum Statement {
 
 /// What a row is made of.
 #[derive(Drop)]
-pub struct Row {
+pub struct RowExpression {
     pub numbers: Numbers,
     pub message: Option<MessageExpression>,
 }
@@ -240,6 +240,7 @@ impl Numbers {
         Numbers { expressions }
     }
 
+    /// The expressions in order, of which there are at most four.
     pub fn slice(&self) -> &[Expression]
         ensures value { result.now ≡ self.now }
         ensures few { length result.now ≤ most_fields }

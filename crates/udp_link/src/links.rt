@@ -27,8 +27,8 @@ pub struct UdpLinks<R: Net + Drop> {
 }
 
 impl<R: Net + Drop> UdpLinks<R> {
-    /// Links at which nobody listens yet, over the runtime, as `UdpLinks::of(alloc, &rt)`.
-    pub fn of(alloc: Global, net: R) -> Result<Self, AllocError>
+    /// Links at which nobody listens yet, over the runtime, as `UdpLinks::new(alloc, &rt)`.
+    pub fn new(alloc: Global, net: R) -> Result<Self, AllocError>
         ensures nobody { IfOk result (λ links. (m : ℕ) → ⟦<UdpLinks<R> as Links>⟧.listening links m ≡ None) }
         ensures faults { IfOk result (λ links. ⟦<UdpLinks<R> as Links>⟧.faults links ≡ 0) }
         ensures send_faults { IfOk result (λ links. ⟦<UdpLinks<R> as Links>⟧.send_faults links ≡ 0) }

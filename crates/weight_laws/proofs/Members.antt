@@ -40,7 +40,7 @@ from_flat_map f y [] k h = absurd h
 from_flat_map f y (x ∷ xs) k h =
     ⊎_elim (k x (inl refl)) (from_flat_map f y xs (λ z m. k z (inr m))) (in_either y (f x) (flat_map f xs) h)
 
--- the same of a map
+-- what a member of a mapped list comes from
 pub from_map : {A B C : Type 0} (f : A → B) (y : B) (xs : List A) → ((x : A) → In x xs → y ≡ f x → C) →
     In y (map f xs) → C
 from_map f y [] k h = absurd h

@@ -21,7 +21,7 @@ pub loop-first-preserved : goal.loop-first-preserved
 loop-first-preserved c = (
   turn _ _ _ _ _ _ _ _ _ _ _ _ _ _ _ _ _ c.loop-first.invariant.0 c.in-Some.ensures.cases.0
       c.piece_at-piece.ensures.piece
-      c.piece_at-piece.ensures.within c.piece_at-piece.ensures.flat (c.is_number-after_number.ensures _)
+      c.piece_at-piece.ensures.within c.piece_at-piece.ensures.flat (c.law_number-after_number.ensures _)
       c.in_ok-more.ensures c.in-Some-2.is
       (next_column _ _ (sym c.is_blank.ensures ∙ c.if-is_blank.false)) refl c.split_at.ensures.back,
   piece_more _ _ _ _ _ _ _ c.loop-first.invariant.1 c.in_ok-more.ensures

@@ -1,6 +1,7 @@
 use Rattle.std.proofs.Common.{refl}
 use Rattle.layer_ast.specs.Cut.{piece}
-use Rattle.layer_ast.specs.Spelling.{symbols, symbol_at}
+use Rattle.layer_words.specs.Spelling.{symbols}
+use Rattle.layer_ast.specs.Cut.{symbol_at}
 use Rattle.grammar_laws.proofs.Beginnings.{nothing_begins}
 use Rattle.grammar_laws.proofs.bad_byte_stops.Goals as goal
 

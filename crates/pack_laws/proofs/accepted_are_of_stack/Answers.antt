@@ -1,4 +1,4 @@
-use Rattle.pack_laws.proofs.Replaced.{accepted_are_of_stack}
+use Rattle.pack_laws.proofs.Accepted.{accepted_are_of_stack}
 use Rattle.pack_laws.proofs.accepted_are_of_stack.Goals as goal
 
 pub returns : goal.returns

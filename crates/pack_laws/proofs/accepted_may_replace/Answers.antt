@@ -1,4 +1,4 @@
-use Rattle.pack_laws.proofs.Replaced.{accepted_may_replace}
+use Rattle.pack_laws.proofs.Accepted.{accepted_may_replace}
 use Rattle.pack_laws.proofs.accepted_may_replace.Goals as goal
 
 pub returns : goal.returns

@@ -1,4 +1,4 @@
-use Rattle.pack_laws.proofs.Replaced.{own_traces_give_own}
+use Rattle.pack_laws.proofs.Accepted.{own_traces_give_own}
 use Rattle.pack_laws.proofs.own_traces_give_own.Goals as goal
 
 pub returns : goal.returns

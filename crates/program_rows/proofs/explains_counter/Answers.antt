@@ -12,7 +12,7 @@ use Rattle.packet_mean.specs.Received.{received}
 use Rattle.file_mean.specs.Layers.{handler_of, layer_of}
 use Rattle.file_mean.specs.Stack.{stack_of}
 use Rattle.run_mean.specs.World.{happens}
-use Rattle.miss_mean.specs.Lacks.{miss_of}
+use Rattle.lack_mean.specs.Lacks.{miss_of}
 use Rattle.miss_mean.specs.Text.{miss_line, explained_lines}
 use Rattle.std.specs.Prelude.{[], ◌∷◌, codes}
 use Rattle.script_mean.specs.declared.event.ScriptEvent.TheVariants as script

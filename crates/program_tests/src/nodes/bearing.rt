@@ -22,7 +22,7 @@ const BORNE_SHORT: &[u8] =
 fn failing(alloc: Global, listen: bool, receive: bool) -> Result<MemLinks, AllocError> {
     let listens = vec![in alloc; false, false, listen]?;
     let receives = vec![in alloc; false, receive]?;
-    Ok(MemLinks::of(alloc, Vec::new(alloc), listens, receives))
+    Ok(MemLinks::new(alloc, Vec::new(alloc), listens, receives))
 }
 
 /// Two turns of the counter layer over links.
@@ -36,8 +36,8 @@ fn served(
         alloc,
         &["node", "f", "p", "--turns=2", "--me=0,1,2", run, patience],
     )?;
-    let mut shelf = MemShelf::of(pair(alloc, COUNTER, "p", PLAN)?, Vec::new(alloc));
-    let mut clock = MemClock::of(vec![in alloc; 5, 6]?);
+    let mut shelf = MemShelf::new(pair(alloc, COUNTER, "p", PLAN)?, Vec::new(alloc));
+    let mut clock = MemClock::new(vec![in alloc; 5, 6]?);
     left_over(
         alloc,
         &words,

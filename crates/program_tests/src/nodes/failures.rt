@@ -14,7 +14,7 @@ const LOST: &[u8] =
 const UNEVEN: &[u8] =
     b"> tick 0 5\n> tick 1 5\n> tick 2 5\n> cast 0 6869\npacket 1 0 all cnt.num(0) 6869\n> tick 0 6\n> tick 1 6\n> tick 2 6\n> raw 2 e50000000100000007000000000000000700ff01000000006869\ndeliver 2 cast 0 6869\n> cast 2 7a\npacket 2 2 all cnt.num(0) 7a\n> tick 0 7\n> tick 1 7\n> tick 2 7\n> raw 0 e50000000100000007000000000000000702ff01000000007a\ndeliver 0 cast 2 7a\n> raw 1 e50000000100000007000000000000000702ff01000000007a\ndeliver 1 cast 2 7a\n> raw 2 e50000000100000007000000000000000700ff01000000006869\ndeliver 2 cast 0 6869\nend 15\n";
 
-/// The same with nothing to fail, where the clock goes back.
+/// What a node of two turns writes where nothing fails and the clock goes back.
 const BACK: &[u8] =
     b"> tick 0 6\n> tick 1 6\n> tick 2 6\n> cast 0 6869\npacket 1 0 all cnt.num(0) 6869\n> tick 0 5\n> tick 1 5\n> tick 2 5\n> raw 1 e50000000100000007000000000000000700ff01000000006869\ndeliver 1 cast 0 6869\n> raw 2 e50000000100000007000000000000000700ff01000000006869\ndeliver 2 cast 0 6869\n> cast 2 7a\npacket 2 2 all cnt.num(0) 7a\nend 10\n";
 

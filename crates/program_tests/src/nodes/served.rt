@@ -44,11 +44,11 @@ pub(crate) fn served(alloc: Global, case: Case) -> Result<Left, AllocError> {
         alloc,
         &["node", "f", "p", case.turns, "--me=0,1,2", "--run=layered"],
     )?;
-    let mut shelf = MemShelf::of(pair(alloc, COUNTER, "p", PLAN)?, case.reads);
-    let mut out = MemSink::of(alloc, case.puts);
-    let mut err = MemSink::of(alloc, case.says);
-    let mut links = MemLinks::of(alloc, case.fates, case.listens, case.receives);
-    let mut clock = MemClock::of(case.moments);
+    let mut shelf = MemShelf::new(pair(alloc, COUNTER, "p", PLAN)?, case.reads);
+    let mut out = MemSink::new(alloc, case.puts);
+    let mut err = MemSink::new(alloc, case.says);
+    let mut links = MemLinks::new(alloc, case.fates, case.listens, case.receives);
+    let mut clock = MemClock::new(case.moments);
     let status = run_over(
         alloc, &words, &mut shelf, &mut out, &mut err, &mut links, &mut clock,
     );

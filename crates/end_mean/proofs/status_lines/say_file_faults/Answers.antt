@@ -1,7 +1,7 @@
 -- By computation.
 use Rattle.std.proofs.Common.{refl}
 use Rattle.std.specs.Fmt.{digits}
-use Rattle.layer_ast.specs.Spelling.{kinds}
+use Rattle.layer_words.specs.Spelling.{kinds}
 use Rattle.end_mean.proofs.status_lines.say_file_faults.Goals as goal
 
 pub returns-clause-length : goal.returns-clause-length

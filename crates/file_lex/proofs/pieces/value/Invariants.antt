@@ -1,5 +1,5 @@
 use Rattle.std.proofs.Common.{◌≡◌, ◌≤◌, take}
-use Rattle.layer_ast.specs.Spelling.{number_of}
+use Rattle.layer_ast.specs.Cut.{number_of}
 use Rattle.file_lex.proofs.pieces.value.Given as goal
 
 abbrev pub invariant-loop-digit : goal.invariant-loop-digit

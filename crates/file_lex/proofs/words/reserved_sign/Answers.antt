@@ -1,5 +1,5 @@
 use Rattle.std.proofs.Common.{◌∙◌, refl}
-use Rattle.layer_ast.specs.Spelling.{reserved}
+use Rattle.layer_words.specs.Spelling.{reserved}
 use Rattle.file_lex.proofs.Groups.{grouped_is}
 use Rattle.file_lex.proofs.words.reserved_sign.Goals as goal
 

@@ -15,9 +15,9 @@ loop-item-preserved c =
           rw w.all-is (w.in_ok-push.ensures.items
           ∙ kept_more item_tree test name c.args.items.now c.loop-item.item-index c.item-item.result
           c.loop-item.all.items
-          c.loop-item-test.true c.item-item.is (sym c.is_number.ensures ∙ w.if-is_number.true) c.loop-item.invariant)
+          c.loop-item-test.true c.item-item.is (sym c.law_number.ensures ∙ w.if-is_number.true) c.loop-item.invariant)
       | else-is_number w ↦
           rw w.all-is (passed_over item_tree test name c.args.items.now c.loop-item.item-index c.item-item.result
-          c.loop-item.all.items c.loop-item-test.true c.item-item.is (sym c.is_number.ensures ∙ w.if-is_number.false)
+          c.loop-item.all.items c.loop-item-test.true c.item-item.is (sym c.law_number.ensures ∙ w.if-is_number.false)
           c.loop-item.invariant)
     ]

@@ -1,5 +1,5 @@
 use Rattle.std.proofs.Common.{[], ◌∷◌}
-use Rattle.layer_ast.specs.declared.tokens.Sign.TheVariants.{N, LeftBracket, RightBracket}
+use Rattle.layer_words.specs.declared.signs.Sign.TheVariants.{N, LeftBracket, RightBracket}
 use Rattle.grammar_laws.specs.Machine.{one, a_size, a_capacity}
 use Rattle.file_parse.specs.Parts.{print_capacity, capacity_tree}
 use Rattle.file_parse.proofs.Under.{under, parses_as}

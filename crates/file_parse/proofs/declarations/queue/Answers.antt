@@ -1,5 +1,5 @@
 use Rattle.std.proofs.Common.{[], ◌∷◌, ◌∙◌}
-use Rattle.layer_ast.specs.declared.tokens.Sign.TheVariants as sign
+use Rattle.layer_words.specs.declared.signs.Sign.TheVariants as sign
 use Rattle.layer_ast.specs.declared.tokens.Token.TheVariants as token
 use Rattle.layer_ast.specs.Print as print
 use Rattle.layer_ast.specs.View.{items_tree, declaration_tree}

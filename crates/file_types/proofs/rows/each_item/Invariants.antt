@@ -1,7 +1,7 @@
 use Rattle.std.proofs.Common.{List, [], ◌∷◌, flat_map, map, take, zip}
 use Rattle.layer_ast.specs.Tree.{ArgumentTree, ItemTree}
 use Rattle.layer_ast.specs.View.{argument_tree, item_tree}
-use Rattle.layer_ast.specs.declared.syntax.Sort.{Sort}
+use Rattle.layer_words.specs.declared.sorts.Sort.{Sort}
 use Rattle.fault_mean.specs.ExpressionFaults.{argument_faults}
 use Rattle.file_expressions.specs.Found.{Finds}
 use Rattle.file_scope.specs.Scope.{scope_of}

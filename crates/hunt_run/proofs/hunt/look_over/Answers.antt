@@ -1,4 +1,4 @@
-use Rattle.event_graph.specs.Answer.{stack_tree}
+use Rattle.stack_judge.specs.Answer.{stack_tree}
 use Rattle.file_jobs.proofs.Sound.{means_sound}
 use Rattle.hunt_run.specs.Reading.{request_shown}
 use Rattle.hunt_run.proofs.Looked.{looked}

@@ -5,6 +5,6 @@ use Rattle.job_ends.proofs.Texts.{four_joined}
 use Rattle.job_ends.proofs.lines.cycle.Goals as goal
 
 pub returns : goal.returns
-returns c = rw (← c.kind_word.ensures) (IfOk-weaker c.format.result _ _ (λ line is. is
+returns c = rw (← c.word.ensures) (IfOk-weaker c.format.result _ _ (λ line is. is
     ∙ ap (λ t. codes "file: cycle " ++ t)
-    (four_joined (decimal c.args.place) (codes " ") c.kind_word.result.now (codes "\n"))) c.format.ensures.ok)
+    (four_joined (decimal c.args.place) (codes " ") c.word.result.now (codes "\n"))) c.format.ensures.ok)

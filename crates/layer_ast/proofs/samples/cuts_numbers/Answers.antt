@@ -1,6 +1,7 @@
 use Rattle.std.proofs.Common.{refl}
 use Rattle.layer_ast.specs.Cut.{piece}
-use Rattle.layer_ast.specs.Spelling.{reserved, kinds, word_token, symbols, symbol_at}
+use Rattle.layer_words.specs.Spelling.{reserved, kinds, symbols}
+use Rattle.layer_ast.specs.Cut.{word_token, symbol_at}
 use Rattle.layer_ast.proofs.samples.cuts_numbers.Goals as goal
 
 pub returns : goal.returns

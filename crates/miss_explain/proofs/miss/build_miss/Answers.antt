@@ -1,6 +1,6 @@
 use Rattle.std.proofs.Common.{◌≡◌, List, ℕ, subst}
 use Rattle.std.specs.Prelude.{OnOk}
-use Rattle.event_graph.specs.Answer.{stack_tree}
+use Rattle.stack_judge.specs.Answer.{stack_tree}
 use Rattle.layer_ast.specs.View.{file_tree}
 use Rattle.stack_shapes.specs.Trees.{plans_tree}
 use Rattle.step_misses.specs.Misses.{miss_meant}

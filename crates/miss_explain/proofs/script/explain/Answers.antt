@@ -1,6 +1,6 @@
 use Rattle.std.proofs.Common.{ℕ, ◌∷◌, [], length, ap, subst, sym}
 use Rattle.std.proofs.lemmas.Result.{err_from_is_err_and}
-use Rattle.event_graph.specs.Answer.{stack_tree}
+use Rattle.stack_judge.specs.Answer.{stack_tree}
 use Rattle.layer_ast.specs.View.{file_tree}
 use Rattle.outside.proofs.Turns.{part_of, wrote_as, wrote_both}
 use Rattle.outside.specs.Lines.{Wrote}

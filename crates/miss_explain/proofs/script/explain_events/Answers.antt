@@ -1,6 +1,6 @@
 use Rattle.std.proofs.Common.{◌∙◌, ◌<◌, length, get_or, ap, arith}
 use Rattle.std.proofs.lemmas.Result.{err_from_is_err_and}
-use Rattle.event_graph.specs.Answer.{stack_tree}
+use Rattle.stack_judge.specs.Answer.{stack_tree}
 use Rattle.layer_ast.specs.View.{file_tree}
 use Rattle.stack_shapes.specs.Trees.{plans_tree}
 use Rattle.miss_explain.proofs.Going.{held_cut, held_first, held_more}

@@ -1,4 +1,4 @@
-use Rattle.event_graph.specs.Answer.{stack_tree}
+use Rattle.stack_judge.specs.Answer.{stack_tree}
 use Rattle.layer_ast.specs.View.{file_tree}
 use Rattle.outside.specs.Tells.{tells_of}
 use Rattle.stack_shapes.specs.Trees.{plans_tree}

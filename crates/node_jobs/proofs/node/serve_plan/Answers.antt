@@ -1,5 +1,5 @@
 use Rattle.std.proofs.Common.{rules, ◌∙◌}
-use Rattle.event_graph.specs.Answer.{stack_tree}
+use Rattle.stack_judge.specs.Answer.{stack_tree}
 use Rattle.job_ends.specs.Shown.{shown_end}
 use Rattle.group_mean.specs.Shown.{shown_mode}
 use Rattle.node_loop.specs.Around.{around}

@@ -17,20 +17,20 @@ pass_stepped-requires g c =
     let at = c.requires.up.rests.somewhere in
     let places = c.in_ok-stepped.ensures.places ∙ c.requires.up.rests.places in
     let light = rw (c.deref-in-Stepped.ensures, c.stack-in-Stepped.ensures) at
-    c.an_accepted_stack_is_light.ensures in
+    c.law_accepted_is_light.ensures in
     let h = happened c.requires.up.mode (stack_in c.args.course) (plans_in c.args.course) c.requires.up.world
     c.args.event.now (g.F.Feed.group c.args.feed.now)
     (g.F.Feed.group c.feed.new.self) c.feed.new.out.outputs 0 c.feed.new.visits _ _ at.mode_is at.stack_is at.plans_are
     c.in-Stepped.is (c.in_ok-stepped.ensures.fed c.requires.up.world at.stands) in
     record {
-      few = omega (arith, c.next_number-number.ensures.small, c.has_places_for_all.ensures, places, light);
+      few = omega (arith, c.next_number-number.ensures.small, c.law_places_for_all.ensures, places, light);
       sendable = own_sendable _ _ _ _ _ c.requires.up.members _ _ _ _ _ _ (g.N.Links.listening c.args.links.now)
           (record {
-            places = rw (c.deref.ensures, c.stack.ensures) at c.is_within_limits.ensures.places;
+            places = rw (c.deref.ensures, c.stack.ensures) at c.law_within_limits.ensures.places;
             fields =
-                rw (c.deref.ensures, c.stack.ensures) at c.is_within_limits.ensures.fields;
+                rw (c.deref.ensures, c.stack.ensures) at c.law_within_limits.ensures.fields;
           }) c.requires.up.typed
-          c.requires.up.numbered c.is_given.ensures
+          c.requires.up.numbered c.law_given.ensures
           at.chained at.within h c.member_of.ensures c.requires.up.listen.0.1;
     }
 
@@ -57,7 +57,7 @@ returns-clause-fed g c = λ mode n w r.
     (g.F.Feed.group c.feed.new.self) c.feed.new.out.outputs 0 c.feed.new.visits _ _ at.mode_is at.stack_is at.plans_are
     c.in-Stepped.is (c.in_ok-stepped.ensures.fed w at.stands) in
     record {
-      rests = rests_again _ _ _ w _ n _ _ _ _ _ _ _ _ c.requires.up.typed c.requires.up.numbered c.is_given.ensures r
+      rests = rests_again _ _ _ w _ n _ _ _ _ _ _ _ _ c.requires.up.typed c.requires.up.numbered c.law_given.ensures r
           c.in_ok-stepped.ensures.stays h
           c.in_ok-stepped.ensures.places;
       counted = refl;

@@ -18,7 +18,7 @@ returns-in_err-desk g c =
     let p = err_from_is_err_and c.from_residual.result c.from_residual.ensures.1 in
     rw (p.1, p.2) (not_begun (stack_in c.args.course) c.args.course.plan.now c.args.course.me.now c.args.course.turns
     c.args.patience
-    (g.F.Feed.group c.args.feed.now).mode c.stopped_goes_on.ensures
+    (g.F.Feed.group c.args.feed.now).mode c.law_stopped_goes_on.ensures
     (whereabouts (around g.O.Sink g.N.Links c.args.out.now c.args.links.now) (g.C.Clock.told c.args.clock.now)))
 
 pub listen_all-requires-clause-members : goal.listen_all-requires-clause-members
@@ -33,7 +33,7 @@ returns-in_err-listen_all g c =
     let listening = c.listen_all.new.links in
     rw (p.1, p.2) (not_all_listen (stack_in c.args.course) c.args.course.plan.now c.args.course.me.now
     c.args.course.turns c.args.patience
-    (g.F.Feed.group c.args.feed.now).mode c.stopped_goes_on.ensures (tells_of g.O.Sink c.args.out.now)
+    (g.F.Feed.group c.args.feed.now).mode c.law_stopped_goes_on.ensures (tells_of g.O.Sink c.args.out.now)
     (g.C.Clock.told c.args.clock.now) (g.N.Links.faults links) (g.N.Links.faults listening)
     (g.N.Links.send_faults links) (g.N.Links.send_faults listening)
     (g.N.Links.told links) (g.N.Links.told listening) c.in_err-listen_all.field-0.0
@@ -56,8 +56,8 @@ make_turns-requires-clause-up g c =
     up_first stack plan me turns patience mode plans group desk (g.N.Links.listening c.listen_all.new.links)
     c.requires.typed
     (subst AreNumbered (sym c.requires.plans) (plans_are_numbered stack c.requires.typed))
-    (rests_first stack plan me turns patience mode plans group desk c.requires.typed c.number_fits.ensures
-    c.number_fits-2.ensures c.requires.few_peers
+    (rests_first stack plan me turns patience mode plans group desk c.requires.typed c.law_number_fits.ensures
+    c.law_number_fits-2.ensures c.requires.few_peers
     refl c.requires.stack c.requires.group_plans c.requires.group
     (rw (c.deref.ensures, c.stack.ensures) at c.in_ok-desk.ensures.places)) c.requires.members
     (subst (λ peers. AllByRecursion (λ id. g.N.Links.listening c.listen_all.new.links id ≡ Some (length peers)) me)
@@ -85,7 +85,8 @@ returns-in_err-make_turns g c =
     let at = now (g.F.Feed.group on.feed) on.desk
     (around g.O.Sink g.N.Links on.out on.links) (g.C.Clock.told on.clock) in
     let p = err_from_is_err_and c.from_residual-in_err-make_turns.result c.from_residual-in_err-make_turns.ensures.1 in
-    rw (p.1, p.2) (not_all_made stack plan me turns patience mode c.stopped_goes_on.ensures (whereabouts before clock)
+    rw (p.1, p.2) (not_all_made stack plan me turns patience mode c.law_stopped_goes_on.ensures
+    (whereabouts before clock)
     from
     (reached before.output plan.peers me (g.N.Links.faults links) (g.N.Links.faults listening)
     (g.N.Links.send_faults links) (g.N.Links.send_faults listening)
@@ -95,8 +96,8 @@ returns-in_err-make_turns g c =
     c.in_ok-listen_all.ensures.sends) at
     c.in_err-make_turns.field-0.0
     (made_first stack plan me turns patience mode plans group desk
-    (rests_first stack plan me turns patience mode plans group desk c.requires.typed c.number_fits.ensures
-    c.number_fits-2.ensures c.requires.few_peers
+    (rests_first stack plan me turns patience mode plans group desk c.requires.typed c.law_number_fits.ensures
+    c.law_number_fits-2.ensures c.requires.few_peers
     refl c.requires.stack c.requires.group_plans c.requires.group
     (rw (c.deref.ensures, c.stack.ensures) at c.in_ok-desk.ensures.places)) c.in_ok-desk.ensures.none c.requires.plans
     from
@@ -125,7 +126,7 @@ returns-in_err-write_end g c =
     (around g.O.Sink g.N.Links on.out on.links) (g.C.Clock.told on.clock) in
     let last = tells_of g.O.Sink c.write_end.new.out in
     let p = err_from_is_err_and c.from_residual-in_err-write_end.result c.from_residual-in_err-write_end.ensures.1 in
-    rw (p.1, p.2) (all_served stack plan me turns patience mode c.stopped_goes_on.ensures (whereabouts before clock)
+    rw (p.1, p.2) (all_served stack plan me turns patience mode c.law_stopped_goes_on.ensures (whereabouts before clock)
     from
     (reached before.output plan.peers me (g.N.Links.faults links) (g.N.Links.faults listening)
     (g.N.Links.send_faults links) (g.N.Links.send_faults listening)
@@ -134,8 +135,8 @@ returns-in_err-write_end g c =
     (g.N.Links.told listening) (Ok tt)) c.slice.ensures c.in_ok-listen_all.ensures.told)
     c.in_ok-listen_all.ensures.sends) at
     (made_first stack plan me turns patience mode plans group desk
-    (rests_first stack plan me turns patience mode plans group desk c.requires.typed c.number_fits.ensures
-    c.number_fits-2.ensures c.requires.few_peers
+    (rests_first stack plan me turns patience mode plans group desk c.requires.typed c.law_number_fits.ensures
+    c.law_number_fits-2.ensures c.requires.few_peers
     refl c.requires.stack c.requires.group_plans c.requires.group
     (rw (c.deref.ensures, c.stack.ensures) at c.in_ok-desk.ensures.places)) c.in_ok-desk.ensures.none c.requires.plans
     from
@@ -164,7 +165,7 @@ returns g c =
     let at = now (g.F.Feed.group on.feed) on.desk
     (around g.O.Sink g.N.Links on.out on.links) (g.C.Clock.told on.clock) in
     let last = tells_of g.O.Sink c.write_end.new.out in
-    all_served stack plan me turns patience mode c.stopped_goes_on.ensures (whereabouts before clock) from
+    all_served stack plan me turns patience mode c.law_stopped_goes_on.ensures (whereabouts before clock) from
     (reached before.output plan.peers me (g.N.Links.faults links) (g.N.Links.faults listening)
     (g.N.Links.send_faults links) (g.N.Links.send_faults listening)
     (g.N.Links.told links) (g.N.Links.told listening)
@@ -172,8 +173,8 @@ returns g c =
     (g.N.Links.told listening) (Ok tt)) c.slice.ensures c.in_ok-listen_all.ensures.told)
     c.in_ok-listen_all.ensures.sends) at
     (made_first stack plan me turns patience mode plans group desk
-    (rests_first stack plan me turns patience mode plans group desk c.requires.typed c.number_fits.ensures
-    c.number_fits-2.ensures c.requires.few_peers
+    (rests_first stack plan me turns patience mode plans group desk c.requires.typed c.law_number_fits.ensures
+    c.law_number_fits-2.ensures c.requires.few_peers
     refl c.requires.stack c.requires.group_plans c.requires.group
     (rw (c.deref.ensures, c.stack.ensures) at c.in_ok-desk.ensures.places)) c.in_ok-desk.ensures.none c.requires.plans
     from

@@ -12,7 +12,7 @@ tick_all-requires-clause-few g c =
     let turns = c.slice-entries.type_inv in
     let entries = ap length c.slice-entries.ensures in
     let members = c.requires.members in
-    let t = c.number_fits.ensures in
+    let t = c.law_number_fits.ensures in
     omega (arith, few, next, turns.0, turns.1, entries, members, t)
 
 pub returns-in_err-tick_all-clause-told : goal.returns-in_err-tick_all-clause-told
@@ -42,7 +42,7 @@ ask_all-requires-clause-few g c =
     let turns = c.slice-entries.type_inv in
     let entries = ap length c.slice-entries.ensures in
     let members = c.requires.members in
-    let t = c.number_fits.ensures in
+    let t = c.law_number_fits.ensures in
     let ticks = c.in_ok-tick_all.ensures.counted in
     omega (arith, few, next, turns.0, turns.1, entries, members, t, ticks)
 
@@ -77,7 +77,7 @@ feed_planned-requires-clause-few g c =
     let turns = c.slice-entries.type_inv in
     let entries = ap length c.slice-entries.ensures in
     let members = c.requires.members in
-    let t = c.number_fits.ensures in
+    let t = c.law_number_fits.ensures in
     let ticks = c.in_ok-tick_all.ensures.counted in
     let asks = c.in_ok-ask_all.ensures.counted in
     omega (arith, few, next, turns.0, turns.1, entries, members, t, ticks, asks)

@@ -1,5 +1,5 @@
 use Rattle.std.proofs.Common.{sym, subst, vec_capacity}
-use Rattle.event_graph.specs.Answer.{stack_tree}
+use Rattle.stack_judge.specs.Answer.{stack_tree}
 use Rattle.packet_full.specs.Taking.{left, preamble_tree}
 use Rattle.packet_mean.specs.Plan.{kind_of}
 use Rattle.stack_shapes.specs.Trees.{plans_tree}

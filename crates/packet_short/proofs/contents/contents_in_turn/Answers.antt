@@ -1,5 +1,5 @@
 use Rattle.std.proofs.lemmas.Bool.{eq-eqb}
-use Rattle.event_graph.specs.Answer.{stack_tree}
+use Rattle.stack_judge.specs.Answer.{stack_tree}
 use Rattle.packet_full.specs.Taking.{left, preamble_tree}
 use Rattle.stack_shapes.specs.Trees.{plans_tree}
 use Rattle.packet_full.proofs.Taken.{full_contents, no_full_contents}

@@ -1,4 +1,4 @@
-use Rattle.event_graph.specs.Answer.{stack_tree}
+use Rattle.stack_judge.specs.Answer.{stack_tree}
 use Rattle.packet_full.specs.Taking.{left}
 use Rattle.stack_shapes.specs.Lists.{plan_tree}
 use Rattle.stack_shapes.specs.Trees.{plans_tree}

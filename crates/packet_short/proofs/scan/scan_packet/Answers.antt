@@ -1,4 +1,4 @@
-use Rattle.event_graph.specs.Answer.{stack_tree}
+use Rattle.stack_judge.specs.Answer.{stack_tree}
 use Rattle.stack_shapes.specs.Trees.{plans_tree}
 use Rattle.std.proofs.Common.{Ok, Err}
 use Rattle.packet_full.specs.Taking.{left}
@@ -24,7 +24,7 @@ pub close-requires : goal.close-requires
 close-requires c = λ short.
     (any_ends (stack_tree c.args.known.now.stack.now) (plans_tree c.args.known.now.plans.now)
     c.args.here.now c.args.bytes.now _ _ _ _
-    (record { places = c.is_within_limits.ensures.places; fields = c.is_within_limits.ensures.fields })
+    (record { places = c.law_within_limits.ensures.places; fields = c.law_within_limits.ensures.fields })
     (are_bytes c.args.bytes.now c.type_inv.bytes) c.in-Ok.ensures.front c.in-Ok.ensures.read
     c.in-Ok-contents.ensures.read
     short).following
@@ -40,7 +40,7 @@ returns-in-Ok-close-clause-read c =
     (λ short. (any_ends (stack_tree c.args.known.now.stack.now) (plans_tree c.args.known.now.plans.now)
     c.args.here.now c.args.bytes.now _ _
     _ _
-    (record { places = c.is_within_limits.ensures.places; fields = c.is_within_limits.ensures.fields })
+    (record { places = c.law_within_limits.ensures.places; fields = c.law_within_limits.ensures.fields })
     (are_bytes c.args.bytes.now c.type_inv.bytes) c.in-Ok.ensures.front c.in-Ok.ensures.read
     c.in-Ok-contents.ensures.read
     short).ends)
@@ -57,7 +57,7 @@ returns-in-Err-close-clause-read c =
     (λ short. (any_ends (stack_tree c.args.known.now.stack.now) (plans_tree c.args.known.now.plans.now)
     c.args.here.now c.args.bytes.now _ _
     _ _
-    (record { places = c.is_within_limits.ensures.places; fields = c.is_within_limits.ensures.fields })
+    (record { places = c.law_within_limits.ensures.places; fields = c.law_within_limits.ensures.fields })
     (are_bytes c.args.bytes.now c.type_inv.bytes) c.in-Ok.ensures.front c.in-Ok.ensures.read
     c.in-Ok-contents.ensures.read
     short).ends)

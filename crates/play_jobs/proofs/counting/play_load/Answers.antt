@@ -1,6 +1,6 @@
 use Rattle.std.proofs.Common.{Ok, rules, subst}
 use Rattle.std.proofs.lemmas.Result.{err_from_is_err_and}
-use Rattle.event_graph.specs.Answer.{stack_tree}
+use Rattle.stack_judge.specs.Answer.{stack_tree}
 use Rattle.group_mean.specs.Shown.{shown_mode}
 use Rattle.outside.specs.Tells.{tells_of}
 use Rattle.run_mean.specs.Tally.{tally}

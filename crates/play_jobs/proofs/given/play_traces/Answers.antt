@@ -1,5 +1,5 @@
 use Rattle.std.proofs.Common.{sym, subst}
-use Rattle.event_graph.specs.Answer.{stack_tree}
+use Rattle.stack_judge.specs.Answer.{stack_tree}
 use Rattle.job_ends.specs.Comes.{around}
 use Rattle.play_jobs.specs.Traces.{PlaysTraces}
 use Rattle.play_jobs.proofs.Plays.{has_room_for, played_traces}

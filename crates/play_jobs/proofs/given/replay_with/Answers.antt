@@ -1,5 +1,5 @@
 use Rattle.std.proofs.Common.{refl}
-use Rattle.event_graph.specs.Answer.{stack_tree}
+use Rattle.stack_judge.specs.Answer.{stack_tree}
 use Rattle.job_ends.specs.Comes.{around}
 use Rattle.job_ends.specs.Shown.{shown_end}
 use Rattle.file_jobs.proofs.SecondStops.{with_stops}

@@ -1,5 +1,5 @@
 use Rattle.std.proofs.Common.{arith, sym, subst}
-use Rattle.event_graph.specs.Answer.{stack_tree}
+use Rattle.stack_judge.specs.Answer.{stack_tree}
 use Rattle.job_mean.specs.Job.{load}
 use Rattle.job_ends.specs.Comes.{around, Comes}
 use Rattle.play_jobs.proofs.Plays.{load_comes}

@@ -14,6 +14,6 @@ pub loop-k-preserved : goal.loop-k-preserved
 loop-k-preserved c =
     c.push_front.ensures ∙
     ap (λ fields. record { layer = c.args.first + (c.loop-k.k - 1); tag = 0; fields = fields } ∷ c.loop-k.headers)
-    c.none.ensures ∙
+    c.new.ensures ∙
     one_before none_header c.args.first c.args.count c.loop-k.k c.loop-k.headers c.loop-k-test.true (omega arith)
     c.loop-k.invariant

@@ -1,4 +1,4 @@
-use Rattle.event_graph.specs.Answer.{stack_tree}
+use Rattle.stack_judge.specs.Answer.{stack_tree}
 use Rattle.report_lines.proofs.Rows.{in_other_words, numbers_and_message}
 use Rattle.report_lines.proofs.cells.push_message_row.Goals as goal
 

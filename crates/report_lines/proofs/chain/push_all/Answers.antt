@@ -1,4 +1,4 @@
-use Rattle.event_graph.specs.Answer.{stack_tree}
+use Rattle.stack_judge.specs.Answer.{stack_tree}
 use Rattle.report_lines.proofs.Nones.{none_left}
 use Rattle.report_lines.proofs.chain.push_all.Goals as goal
 

@@ -1,5 +1,5 @@
 use Rattle.std.proofs.Common.{arith, refl}
-use Rattle.event_graph.specs.Answer.{stack_tree}
+use Rattle.stack_judge.specs.Answer.{stack_tree}
 use Rattle.report_lines.proofs.Nones.{none_at, one_put}
 use Rattle.report_lines.proofs.chain.push_from.Goals as goal
 

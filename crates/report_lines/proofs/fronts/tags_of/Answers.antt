@@ -1,5 +1,5 @@
 use Rattle.std.proofs.Common.{arith, rules}
-use Rattle.event_graph.specs.Answer.{stack_tree}
+use Rattle.stack_judge.specs.Answer.{stack_tree}
 use Rattle.report_lines.proofs.LaidOut.{headers_count, tags_all, tags_most}
 use Rattle.report_lines.proofs.fronts.tags_of.Goals as goal
 

@@ -1,4 +1,4 @@
-use Rattle.event_graph.specs.Answer.{stack_tree}
+use Rattle.stack_judge.specs.Answer.{stack_tree}
 use Rattle.layer_mean.specs.State.{rows_at}
 use Rattle.group_feed.specs.Showing.{state_at}
 use Rattle.report_lines.proofs.Rows.{in_other_words}

@@ -1,5 +1,5 @@
 use Rattle.std.proofs.Common.{codes, arith}
-use Rattle.event_graph.specs.Answer.{stack_tree}
+use Rattle.stack_judge.specs.Answer.{stack_tree}
 use Rattle.layer_mean.specs.State.{rows_at}
 use Rattle.group_feed.specs.Showing.{state_at}
 use Rattle.run_mean.specs.Text.{row_text}

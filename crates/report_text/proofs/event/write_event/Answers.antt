@@ -1,5 +1,5 @@
 use Rattle.std.proofs.Common.{ap, sym, ◌∙◌}
-use Rattle.event_graph.specs.Answer.{stack_tree}
+use Rattle.stack_judge.specs.Answer.{stack_tree}
 use Rattle.group_feed.specs.Showing.{shown_in}
 use Rattle.script_mean.specs.Event.{member_of}
 use Rattle.stack_shapes.specs.Trees.{plans_tree}

@@ -1,6 +1,6 @@
 use Rattle.std.proofs.Common.{arith, sym, ap, ◌∙◌, Some}
 use Rattle.std.proofs.lemmas.Result.{err_from_is_err_and}
-use Rattle.event_graph.specs.Answer.{stack_tree}
+use Rattle.stack_judge.specs.Answer.{stack_tree}
 use Rattle.step_outputs.specs.Views.{output_meant}
 use Rattle.stack_shapes.specs.Trees.{plans_tree}
 use Rattle.report_text.specs.Told.{annex_of}

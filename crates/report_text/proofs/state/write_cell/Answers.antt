@@ -1,5 +1,5 @@
 use Rattle.std.proofs.Common.{sym, ap, ◌∙◌}
-use Rattle.event_graph.specs.Answer.{stack_tree}
+use Rattle.stack_judge.specs.Answer.{stack_tree}
 use Rattle.group_feed.specs.Showing.{state_at}
 use Rattle.run_mean.specs.Report.{cell_lines}
 use Rattle.outside.proofs.Turns.{wrote_as}

@@ -1,6 +1,6 @@
 use Rattle.std.proofs.Common.{arith, rules}
 use Rattle.std.proofs.lemmas.Result.{err_from_is_err_and}
-use Rattle.event_graph.specs.Answer.{stack_tree}
+use Rattle.stack_judge.specs.Answer.{stack_tree}
 use Rattle.group_feed.specs.Showing.{shown_in}
 use Rattle.layer_mean.specs.Tree.{no_layer}
 use Rattle.outside.proofs.Turns.{turns_cut, turns_done, turns_more}

@@ -1,6 +1,6 @@
 use Rattle.std.proofs.Common.{sym}
 use Rattle.std.proofs.lemmas.Result.{err_from_is_err_and}
-use Rattle.event_graph.specs.Answer.{stack_tree}
+use Rattle.stack_judge.specs.Answer.{stack_tree}
 use Rattle.group_feed.specs.Showing.{shown_in}
 use Rattle.outside.proofs.Turns.{part_of, wrote_as, wrote_both}
 use Rattle.report_text.specs.Cells.{layers_shown}

@@ -1,6 +1,6 @@
 use Rattle.std.proofs.Common.{take}
 use Rattle.std.specs.List.{enumerate_from, flat_map}
-use Rattle.event_graph.specs.Answer.{stack_tree}
+use Rattle.stack_judge.specs.Answer.{stack_tree}
 use Rattle.layer_mean.specs.State.{cell_at, queues_in}
 use Rattle.group_feed.specs.Showing.{state_at}
 use Rattle.outside.specs.Lines.{Gains}

@@ -3,8 +3,8 @@ use Rattle.std.proofs.lemmas.List.{length-map}
 use Rattle.layer_mean.specs.Queue.{is_place}
 use Rattle.typed_layer.specs.Places.{rc_tree}
 use Rattle.weight_laws.specs.Runs.{pending_weight}
-use Rattle.event_graph.specs.Answer.{stack_tree}
-use Rattle.event_graph.proofs.Judged.{accepted_is}
+use Rattle.stack_judge.specs.Answer.{stack_tree}
+use Rattle.stack_judge.proofs.Judged.{accepted_is}
 use Rattle.msg_core.specs.Headers.{most_places}
 use Rattle.layer_eval.specs.Did.{as_predicted}
 use Rattle.pool_message.specs.Sent.{sent_seen}

@@ -1,6 +1,6 @@
 use Rattle.std.proofs.Common.{◌≡◌, ◌++◌, map, flat_map}
 use Rattle.weight_laws.specs.Runs.{pending_weight}
-use Rattle.event_graph.specs.Answer.{stack_tree}
+use Rattle.stack_judge.specs.Answer.{stack_tree}
 use Rattle.pool_message.specs.Seen.{event_refs}
 use Rattle.stack_queue.specs.Pending.{first_task, task_seen, tasks_seen}
 use Rattle.stack_queue.specs.Stages.{Stand}

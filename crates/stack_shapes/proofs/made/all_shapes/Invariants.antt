@@ -1,5 +1,5 @@
 use Rattle.std.proofs.Common.{◌≡◌, map, take}
-use Rattle.event_graph.specs.Answer.{stack_tree}
+use Rattle.stack_judge.specs.Answer.{stack_tree}
 use Rattle.shape_core.specs.Cases.{case_trees}
 use Rattle.stack_shapes.specs.Lists.{plan_tree}
 use Rattle.stack_shapes.specs.Shapes.{plan_shapes}

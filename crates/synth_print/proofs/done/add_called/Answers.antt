@@ -1,4 +1,4 @@
-use Rattle.event_graph.specs.Answer.{stack_tree}
+use Rattle.stack_judge.specs.Answer.{stack_tree}
 use Rattle.synth_print.specs.Source.{nodes_in}
 use Rattle.synth_print.proofs.Notes.{called_more}
 use Rattle.synth_print.proofs.done.add_called.Goals as goal

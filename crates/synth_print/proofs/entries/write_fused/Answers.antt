@@ -1,6 +1,6 @@
 use Rattle.std.proofs.Common.{◌∷◌, [], ◌++◌, codes, refl}
 use Rattle.std.proofs.lemmas.Result.{err_from_is_err_and}
-use Rattle.event_graph.specs.Answer.{stack_tree}
+use Rattle.stack_judge.specs.Answer.{stack_tree}
 use Rattle.bypass_mean.specs.Lines.{ended_line, guarded_lines}
 use Rattle.outside.proofs.Turns.{part_of, wrote_both}
 use Rattle.synth_print.specs.Entries.{heading}

@@ -1,7 +1,7 @@
 use Rattle.std.proofs.Common.{arith}
 use Rattle.std.proofs.lemmas.List.{length-map}
 use Rattle.std.proofs.lemmas.Result.{err_from_is_err_and}
-use Rattle.event_graph.specs.Answer.{stack_tree}
+use Rattle.stack_judge.specs.Answer.{stack_tree}
 use Rattle.synth_print.specs.Source.{nodes_in, operations_in}
 use Rattle.synth_print.specs.Texts.{written_of}
 use Rattle.synth_print.proofs.Joins.{operation_at}

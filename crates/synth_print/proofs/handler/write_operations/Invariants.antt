@@ -1,5 +1,5 @@
 use Rattle.std.proofs.Common.{◌≡◌, ◌≤◌, take}
-use Rattle.event_graph.specs.Answer.{stack_tree}
+use Rattle.stack_judge.specs.Answer.{stack_tree}
 use Rattle.outside.specs.Lines.{Gains}
 use Rattle.outside.specs.Tells.{tells_of}
 use Rattle.synth_print.specs.Lines.{all_done, bare}

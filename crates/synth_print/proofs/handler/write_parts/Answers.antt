@@ -1,7 +1,7 @@
 use Rattle.std.proofs.Common.{sym}
 use Rattle.std.proofs.lemmas.Result.{err_from_is_err_and}
 use Rattle.bypass_mean.specs.Lines.{guarded_lines}
-use Rattle.event_graph.specs.Answer.{stack_tree}
+use Rattle.stack_judge.specs.Answer.{stack_tree}
 use Rattle.outside.proofs.Turns.{part_of, wrote_as, wrote_both}
 use Rattle.synth_print.specs.Lines.{all_done, ended_lines, handler_in}
 use Rattle.synth_print.specs.Source.{operations_in}

@@ -1,7 +1,7 @@
 use Rattle.std.proofs.Common.{◌∷◌, [], map, sym}
 use Rattle.std.proofs.lemmas.Result.{err_from_is_err_and}
 use Rattle.bypass_mean.specs.Lines.{end_line, ended_line, printed_lines}
-use Rattle.event_graph.specs.Answer.{stack_tree}
+use Rattle.stack_judge.specs.Answer.{stack_tree}
 use Rattle.outside.proofs.Turns.{part_of, wrote_as, wrote_both}
 use Rattle.stack_shapes.specs.Lists.{plan_tree}
 use Rattle.synth_print.proofs.Printed.{all_is}

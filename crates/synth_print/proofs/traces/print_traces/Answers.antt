@@ -1,6 +1,6 @@
 use Rattle.std.proofs.Common.{ap, map}
 use Rattle.bypass_mean.specs.Lines.{ended_line, file_lines}
-use Rattle.event_graph.specs.Answer.{stack_tree}
+use Rattle.stack_judge.specs.Answer.{stack_tree}
 use Rattle.outside.proofs.Turns.{wrote_as}
 use Rattle.synth_print.proofs.traces.print_traces.Goals as goal
 use Rattle.trace_core.specs.Bypasses.{bypasses_tree}

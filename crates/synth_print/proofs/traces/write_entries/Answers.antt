@@ -1,7 +1,7 @@
 use Rattle.std.proofs.Common.{map, refl}
 use Rattle.std.proofs.lemmas.Result.{err_from_is_err_and}
 use Rattle.std.specs.List.{enumerate_from, flat_map}
-use Rattle.event_graph.specs.Answer.{stack_tree}
+use Rattle.stack_judge.specs.Answer.{stack_tree}
 use Rattle.outside.proofs.Turns.{part_of, wrote_both}
 use Rattle.stack_shapes.specs.Lists.{plan_tree}
 use Rattle.synth_print.specs.Traces.{all_traces, plan_turn}

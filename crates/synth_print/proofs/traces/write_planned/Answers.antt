@@ -1,4 +1,4 @@
-use Rattle.event_graph.specs.Answer.{stack_tree}
+use Rattle.stack_judge.specs.Answer.{stack_tree}
 use Rattle.outside.proofs.Turns.{wrote_as}
 use Rattle.synth_print.proofs.Traced.{found_is}
 use Rattle.synth_print.proofs.traces.write_planned.Goals as goal

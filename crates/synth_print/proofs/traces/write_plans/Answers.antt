@@ -1,7 +1,7 @@
 use Rattle.std.proofs.Common.{arith, get_or, map, refl}
 use Rattle.std.proofs.lemmas.List.{length-map}
 use Rattle.std.proofs.lemmas.Result.{err_from_is_err_and}
-use Rattle.event_graph.specs.Answer.{stack_tree}
+use Rattle.stack_judge.specs.Answer.{stack_tree}
 use Rattle.outside.proofs.Turns.{turns_cut, turns_done, turns_more}
 use Rattle.stack_shapes.specs.Lists.{plan_tree}
 use Rattle.synth_print.specs.Traces.{plan_turn}

@@ -1,6 +1,6 @@
 use Rattle.std.proofs.Common.{map, take}
 use Rattle.std.specs.List.{enumerate_from, flat_map}
-use Rattle.event_graph.specs.Answer.{stack_tree}
+use Rattle.stack_judge.specs.Answer.{stack_tree}
 use Rattle.outside.specs.Lines.{Gains}
 use Rattle.outside.specs.Tells.{tells_of}
 use Rattle.stack_shapes.specs.Lists.{plan_tree}

@@ -1,7 +1,7 @@
 use Rattle.std.proofs.Common.{List, map, take, sym, ap, ◌∙◌}
 use Rattle.fault_mean.specs.Scope as names
 use Rattle.layer_ast.specs.View.{layer_tree}
-use Rattle.layer_ast.specs.declared.names.Word.{Word}
+use Rattle.layer_words.specs.declared.words.Word.{Word}
 use Rattle.file_scope.specs.declared.scope.Local.{Local}
 use Rattle.file_scope.specs.Scope.{local_of, locals_of}
 use Rattle.file_scope.proofs.Lists.{map_take}

@@ -1,6 +1,6 @@
 use Rattle.std.proofs.Common.{arith, ap, ◌+◌, ◌-◌, ◌∙◌, ◌≤◌, take}
 use Rattle.std.proofs.lemmas.List.{length-set}
-use Rattle.event_graph.specs.Answer.{stack_tree}
+use Rattle.stack_judge.specs.Answer.{stack_tree}
 use Rattle.packet_full.proofs.Chain.{last_set, none_read, none_set, one_set, still}
 use Rattle.packet_full.proofs.cursor.Cursor.chain.Goals as goal
 

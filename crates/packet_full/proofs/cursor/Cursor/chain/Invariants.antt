@@ -1,5 +1,5 @@
 use Rattle.std.proofs.Common.{◌≡◌, ◌-◌, drop, length, take}
-use Rattle.event_graph.specs.Answer.{stack_tree}
+use Rattle.stack_judge.specs.Answer.{stack_tree}
 use Rattle.packet_mean.specs.Reading as reading
 use Rattle.packet_full.specs.Taking.{left, with_front}
 use Rattle.packet_full.proofs.cursor.Cursor.chain.Given as goal

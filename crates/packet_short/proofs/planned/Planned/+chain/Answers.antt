@@ -1,6 +1,6 @@
 use Rattle.std.proofs.Common.{arith, sym, ap, [], None, Some, ◌∙◌}
 use Rattle.std.specs.Prelude.{if◌then◌else◌}
-use Rattle.event_graph.specs.Answer.{stack_tree}
+use Rattle.stack_judge.specs.Answer.{stack_tree}
 use Rattle.packet_full.specs.Taking.{left}
 use Rattle.packet_short.proofs.Reading.{none_dealt}
 use Rattle.packet_short.proofs.planned.Planned.+chain.Goals as goal

@@ -1,5 +1,5 @@
 use Rattle.std.proofs.Common.{◌-◌, length}
-use Rattle.event_graph.specs.Answer.{stack_tree}
+use Rattle.stack_judge.specs.Answer.{stack_tree}
 use Rattle.packet_short.proofs.planned.Planned.+chain.Given as goal
 
 abbrev pub decreases-chain : goal.decreases-chain

@@ -7,7 +7,7 @@ use Rattle.pool_message.proofs.Slots.{value_at}
 use Rattle.pool_message.proofs.list.List.push_bare.Goals.{in-Some, in-None, then-is_empty, else-is_empty}
 use Rattle.std.proofs.Common.{vec_capacity, List, Option}
 use Rattle.pool_message.specs.declared.message.PoolMessage.{PoolMessage}
-use Rattle.layer_ast.specs.declared.tokens.Dir.{Dir}
+use Rattle.layer_words.specs.declared.events.Dir.{Dir}
 use Rattle.pool_message.specs.declared.event.PoolEvent.{PoolEvent}
 use Rattle.pool_message.specs.declared.list.List.TheInside.{Inside}
 use Rattle.pool_message.proofs.Slots.{used_within, used_bare, used, used_stands, made, made_stands, stand_count}
@@ -118,7 +118,8 @@ stored c = elim c.match-pop.branch [
       ))
 ]
 
--- the same once its number is the first where there was none
+-- the number is put after the others, an event without a message stands there, and where there was no number it is the
+-- first
 placed : (c : goal.In-Ok) →
     Stored c c.if-is_empty.self-inside c.match-pop.k (c.if-is_empty.self-inside.order.items ++ c.match-pop.k ∷ [])
 placed c =

@@ -1,5 +1,5 @@
 use Rattle.std.proofs.Common.{ap, length}
-use Rattle.event_graph.specs.Answer.{stack_tree}
+use Rattle.stack_judge.specs.Answer.{stack_tree}
 use Rattle.report_lines.proofs.LaidOut.{fronts_more}
 use Rattle.report_lines.proofs.fronts.Fronts.push.Goals as goal
 

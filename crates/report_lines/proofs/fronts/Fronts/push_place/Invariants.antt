@@ -1,5 +1,5 @@
 use Rattle.std.proofs.Common.{◌≡◌}
-use Rattle.event_graph.specs.Answer.{stack_tree}
+use Rattle.stack_judge.specs.Answer.{stack_tree}
 use Rattle.report_lines.specs.Fronts.{AddFronts, headers_to_tag}
 use Rattle.report_lines.proofs.fronts.Fronts.push_place.Given as goal
 

@@ -1,5 +1,5 @@
 use Rattle.std.proofs.Common.{arith, ap, ◌∙◌, length}
-use Rattle.event_graph.specs.Answer.{stack_tree}
+use Rattle.stack_judge.specs.Answer.{stack_tree}
 use Rattle.report_lines.specs.Nones.{first_nones}
 use Rattle.report_lines.proofs.Nones.{begins, within}
 use Rattle.report_lines.proofs.named.NamedStack.begin.Goals as goal

@@ -1,5 +1,5 @@
 use Rattle.std.proofs.Common.{ap, arith, length, ◌∙◌}
-use Rattle.event_graph.specs.Answer.{stack_tree}
+use Rattle.stack_judge.specs.Answer.{stack_tree}
 use Rattle.report_lines.proofs.LaidOut.{begins_count, front_at, seen}
 use Rattle.report_lines.proofs.named.NamedStack.front_numbered.Goals as goal
 

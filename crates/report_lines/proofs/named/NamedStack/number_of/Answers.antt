@@ -1,5 +1,5 @@
 use Rattle.std.proofs.Common.{◌+◌, ◌-◌, ◌∙◌, ap, arith, length}
-use Rattle.event_graph.specs.Answer.{stack_tree}
+use Rattle.stack_judge.specs.Answer.{stack_tree}
 use Rattle.report_lines.specs.Fronts.{declared_headers}
 use Rattle.report_lines.proofs.LaidOut.{first_at, firsts_count, firsts_ordered, number_is, seen}
 use Rattle.report_lines.proofs.named.NamedStack.number_of.Goals as goal

@@ -1,6 +1,6 @@
 use Rattle.std.proofs.Common.{◌≡◌, ◌+◌, length, arith, rules}
 use Rattle.std.specs.Rc.{rc_value}
-use Rattle.event_graph.specs.Answer.{stack_tree}
+use Rattle.stack_judge.specs.Answer.{stack_tree}
 use Rattle.report_lines.specs.Nones.{first_nones}
 use Rattle.report_lines.proofs.LaidOut.{place_seen}
 use Rattle.report_lines.proofs.Nones.{ends_more, first_more}

@@ -1,6 +1,6 @@
 use Rattle.std.proofs.Common.{◌≡◌}
 use Rattle.std.specs.Rc.{rc_value}
-use Rattle.event_graph.specs.Answer.{stack_tree}
+use Rattle.stack_judge.specs.Answer.{stack_tree}
 use Rattle.report_lines.specs.Fronts.{AreAllFronts}
 use Rattle.report_lines.specs.Nones.{ends_of, first_nones}
 use Rattle.report_lines.proofs.named.NamedStack.of.Given as goal

@@ -16,16 +16,16 @@ invariant_of-self c =
     let room = ap (λ (r : Run Spot). r.capacity) c.self.view_is in
     subst (λ (b : Run SlotRecord). ArePlaces b.values c.self.inside.long.values b.capacity c.self.inside.long.capacity)
     (sym c.push.ensures)
-    (push_places _ _ _ _ c.self.invariant c.fresh.result (omega (arith, c.requires.room)) c.fresh.ensures)
+    (push_places _ _ _ _ c.self.invariant c.new.result (omega (arith, c.requires.room)) c.new.ensures)
 
 pub hold-requires-clause-there : goal.hold-requires-clause-there
 hold-requires-clause-there c =
     let joined = length_joined c.push.new.self.values c.self.inside.long.values in
     let pushed = ap (λ (b : Run SlotRecord). length b.values) c.push.ensures in
-    let more = length-append c.self.inside.block.values (c.fresh.result ∷ []) in omega (arith, c.len-last.ensures)
+    let more = length-append c.self.inside.block.values (c.new.result ∷ []) in omega (arith, c.len-last.ensures)
 
 pub returns : goal.returns
 returns c =
-    adds c.self.inside.block.values c.self.inside.long.values _ _ c.self.view_is c.fresh.result c.push.new.self
+    adds c.self.inside.block.values c.self.inside.long.values _ _ c.self.view_is c.new.result c.push.new.self
     c.hold.new.self c.len-last.result c.args.body.now
     c.push.ensures c.len-last.ensures c.self.invariant.fewer c.hold.ensures

@@ -3,7 +3,7 @@ use Rattle.std.proofs.lemmas.List.{length-drop}
 use Rattle.circular_buffer.specs.Buffer.{Buffer}
 use Rattle.slot_pool.specs.Held.{spare}
 use Rattle.slot_pool.specs.References.{Moved, Covers}
-use Rattle.layer_ast.specs.declared.tokens.Dir.{Dir}
+use Rattle.layer_words.specs.declared.events.Dir.{Dir}
 use Rattle.layer_mean.specs.Queue.{tasks_of}
 use Rattle.layer_mean.specs.Visit.{step}
 use Rattle.layer_desk.specs.Need.{most_above}

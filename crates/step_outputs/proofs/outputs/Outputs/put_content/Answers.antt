@@ -1,7 +1,7 @@
 use Rattle.std.proofs.Common.{◌∷◌, [], ◌++◌, ◌<◌, length, Some, refl, sym, ap, ◌∙◌, arith}
 use Rattle.std.proofs.lemmas.List.{length-map}
 use Rattle.circular_buffer.specs.Buffer.{Buffer}
-use Rattle.layer_ast.specs.declared.tokens.Dir.{Dir}
+use Rattle.layer_words.specs.declared.events.Dir.{Dir}
 use Rattle.layer_mean.specs.Envelope.{event_in}
 use Rattle.layer_mean.specs.declared.run.Event.{Event}
 use Rattle.msg_core.specs.Chain.{Content}

@@ -1,4 +1,0 @@
-use Rattle.bypass_file.proofs.joins.+message_joins.Given as goal
-
-abbrev pub decreases-message_joins : goal.decreases-message_joins
-decreases-message_joins l = l.message

@@ -1,9 +1,0 @@
--- What a file that can't be read is refused for.
-use Rattle.trace_file.specs.declared.error.ReadError.{ReadError}
-use Rattle.trace_file.specs.declared.error.ReadError.TheVariants as read
-use Rattle.bypass_file.specs.declared.error.BypassError.{BypassError}
-use Rattle.bypass_file.specs.declared.error.BypassError.TheVariants.{Line, Memory}
-
-abbrev pub unread : ReadError → BypassError
-unread (read.Line n) = Line n
-unread read.Memory = Memory

@@ -1,9 +1,0 @@
-use Rattle.std.proofs.Common.{vec_len}
-use Rattle.bypass_member.proofs.Making.{Left}
-use Rattle.bypass_member.proofs.opens.close_layers.Given as goal
-
-abbrev pub invariant-loop-layer : goal.invariant-loop-layer
-invariant-loop-layer l = Left l.pool l.layers.items
-
-abbrev pub decreases-loop-layer : goal.decreases-loop-layer
-decreases-loop-layer l = vec_len l.layers

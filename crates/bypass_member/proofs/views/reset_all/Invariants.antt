@@ -1,7 +1,0 @@
-use Rattle.bypass_member.specs.Resetting.{IsResetting}
-use Rattle.bypass_member.proofs.views.reset_all.Given as goal
-
-abbrev pub invariant-loop-index : goal.invariant-loop-index
-invariant-loop-index l =
-    IsResetting l.membership.me l.membership.count l.membership.ltime l.index l.fn.pool l.fn.layers.items l.pool
-    l.layers.items

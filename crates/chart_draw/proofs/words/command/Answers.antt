@@ -1,0 +1,10 @@
+use Rattle.std.proofs.Common.{◌∙◌, ap₂}
+use Rattle.std.proofs.lemmas.Result.{IfOk-weaker}
+use Rattle.clap.specs.Simple.{with_rule}
+use Rattle.chart_draw.proofs.words.command.Goals as goal
+
+pub returns : goal.returns
+returns c =
+    let one = c.in_ok-command.ensures ∙ ap₂ with_rule c.bare.ensures c.required.ensures.rule in
+    let two = c.in_ok-command-2.ensures ∙ ap₂ with_rule one c.option.ensures.rule in
+    IfOk-weaker c.with-3.result _ _ (λ longer is. is ∙ ap₂ with_rule two c.option-2.ensures.rule) c.with-3.ensures

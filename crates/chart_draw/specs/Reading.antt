@@ -1,0 +1,55 @@
+-- What the readers of words and lines answer, and what their values are in the definitions.
+use Rattle.std.specs.Prelude.{◌≡◌, ℕ, List, Option, Some, None, option_map, map}
+use Rattle.script_mean.specs.Words.{Word}
+use Rattle.script_text.specs.Parts.{parts_after}
+use Rattle.chart_mean.specs.Says as spec
+use Rattle.chart_mean.specs.Place as place
+use Rattle.chart_mean.specs.Words as words
+use Rattle.chart_draw.specs.declared.pieces.Pieces.{Pieces}
+use Rattle.chart_draw.specs.declared.says.Says.{Says}
+use Rattle.chart_draw.specs.declared.says.Says.TheVariants.{Deliver, Packet, View, Out, Other, Aside}
+use Rattle.chart_draw.specs.declared.lines.DrawnLine.{DrawnLine}
+use Rattle.chart_draw.specs.declared.words.Request.{Request}
+use denote.Ref.{Bor}
+
+-- the pieces that are left
+abbrev pub pieces_left : Pieces → List Word
+pieces_left pieces = parts_after pieces.at pieces.rest
+
+abbrev pub says_shown : Says → spec.Says
+says_shown (Deliver kind member body) = spec.deliver kind.now member body.now
+says_shown (Packet member body) = spec.packet member body.now
+says_shown (View member ltime mask) = spec.view member ltime mask
+says_shown (Out member) = spec.out member
+says_shown (Other verb member) = spec.other verb.now member
+says_shown Aside = spec.aside
+
+abbrev pub line_shown : DrawnLine → place.Line
+line_shown line = record { number = line.number; x = line.x; text = line.text.now; says = says_shown line.says }
+
+abbrev pub text_shown : Bor (List ℕ) → List ℕ
+text_shown text = text.now
+
+abbrev pub texts_shown : List (Bor (List ℕ)) → List (List ℕ)
+texts_shown texts = map text_shown texts
+
+abbrev pub request_shown : Request → words.Request
+request_shown request = record { file = request.file.now; range = request.range }
+
+abbrev pub word_shown : Option (Bor (List ℕ)) → Option (List ℕ)
+word_shown word = option_map text_shown word
+
+-- what a form took from the words, and the words after it
+abbrev pub Takes : {A : Type 0} → Option (A × List Word) → Option A → List Word → Type 0
+Takes taken (Some value) following = taken ≡ Some (value, following)
+Takes taken None following = taken ≡ None
+
+-- what a form for a word took from the words, and the words after it
+abbrev pub TakesWord : Option (Word × List Word) → Option (Bor (List ℕ)) → List Word → Type 0
+TakesWord taken (Some word) following = taken ≡ Some (word.now, following)
+TakesWord taken None following = taken ≡ None
+
+-- what a form said of a whole line
+abbrev pub IsSaid : Option (spec.Says × List Word) → Option Says → Type 0
+IsSaid taken (Some says) = option_map (λ t. t.0) taken ≡ Some (says_shown says)
+IsSaid taken None = taken ≡ None

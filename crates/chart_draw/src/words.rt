@@ -1,0 +1,74 @@
+//! The words of the program: which picture they ask for.
+ghost use Rattle.std.specs.Prelude.{◌≡◌, IfOk, map, option_map};
+ghost use Rattle.std.specs.String.{string_bytes};
+ghost use Rattle.clap.specs.Simple.{app_of};
+ghost use Rattle.chart_mean.specs.Words as spec;
+ghost use Rattle.command_line.specs.Rules.{rows_found};
+ghost use Rattle.chart_draw.specs.Reading.{request_shown, word_shown};
+
+use chart_mean::Range;
+use clap::{ArgMatches, Command};
+use command_line::{bare, option, required, taken, text, with};
+use script_text::number_within;
+use std::alloc::{AllocError, Global};
+
+/// A report, and the lines of it that a picture is asked of.
+#[derive(Clone, Copy)]
+pub(crate) struct Request<'w> {
+    pub file: &'w str,
+    pub range: Range,
+}
+
+/// What the words after the program's name ask for, or nothing where they are no request.
+pub(crate) fn asked_for<'w>(
+    alloc: Global,
+    words: &'w [String],
+) -> Result<Option<Request<'w>>, AllocError>
+    ensures { IfOk result (λ request. option_map request_shown request ≡ spec.request_of (map string_bytes words.now)) }
+{
+    match taken(command(alloc)?, words)? {
+        Some(matches) => Ok(request_in(&matches)),
+        None => Ok(None),
+    }
+}
+
+/// The request in what `clap` found, by name.
+fn request_in<'w>(matches: &ArgMatches<'w>) -> Option<Request<'w>>
+    ensures { option_map request_shown result ≡ spec.request_in (rows_found matches.now) }
+{
+    let file = text(matches, "report")?;
+    let first = line_number(1, text(matches, "from"))?;
+    let last = line_number(u32::MAX, text(matches, "to"))?;
+    let range = range_of(first, last)?;
+    Some(Request { file, range })
+}
+
+/// The number of a line that is given, or else the default; none where what is given is no such number.
+fn line_number(default: u32, given: Option<&str>) -> Option<u32>
+    ensures { result ≡ spec.line_number default (word_shown given.entry) }
+{
+    match given {
+        Some(text) => number_within(1, u32::MAX, text.as_bytes()),
+        None => Some(default),
+    }
+}
+
+/// The range from a line to one that doesn't stand before it.
+fn range_of(first: u32, last: u32) -> Option<Range>
+    ensures { result ≡ spec.range_of first last }
+{
+    if first <= last {
+        Some(Range { first, last })
+    } else {
+        None
+    }
+}
+
+/// The one command of the program, as `clap` is told of it.
+fn command<'a>(alloc: Global) -> Result<Command<'a>, AllocError>
+    ensures { IfOk result (λ command. app_of command ≡ spec.command) }
+{
+    let command = with(bare(alloc, "runchart"), required(alloc, "report"))?;
+    let command = with(command, option(alloc, "from"))?;
+    with(command, option(alloc, "to"))
+}

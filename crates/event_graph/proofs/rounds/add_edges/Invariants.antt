@@ -1,7 +1,0 @@
-use Rattle.std.proofs.Common.{◌≡◌, map, fold, take}
-use Rattle.weight_laws.specs.Rounds.{with_edge}
-use Rattle.event_graph.specs.Edges.{edge_tree}
-use Rattle.event_graph.proofs.rounds.add_edges.Given as goal
-
-abbrev pub invariant-loop-edge : goal.invariant-loop-edge
-invariant-loop-edge l = l.sum ≡ fold (with_edge l.costs) l.fn.own (map edge_tree (take l.edge-index l.edges))

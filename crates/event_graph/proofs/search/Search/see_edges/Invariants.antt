@@ -1,9 +1,0 @@
-use Rattle.std.proofs.Common.{◌≡◌, fold, map, take}
-use Rattle.weight_laws.specs.Search.{see_targets}
-use Rattle.event_graph.specs.Edges.{edge_tree}
-use Rattle.event_graph.specs.Searches.{search_tree}
-use Rattle.event_graph.proofs.search.Search.see_edges.Given as goal
-
-abbrev pub invariant-loop-edge : goal.invariant-loop-edge
-invariant-loop-edge l = search_tree l.self ≡
-    fold see_targets (search_tree l.fn.self) (map edge_tree (take l.edge-index l.edges))

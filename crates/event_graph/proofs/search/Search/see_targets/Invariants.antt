@@ -1,8 +1,0 @@
-use Rattle.std.proofs.Common.{◌≡◌, fold}
-use Rattle.std.specs.List.{range_with_len}
-use Rattle.weight_laws.specs.Search.{see}
-use Rattle.event_graph.specs.Searches.{search_tree}
-use Rattle.event_graph.proofs.search.Search.see_targets.Given as goal
-
-abbrev pub invariant-loop-k : goal.invariant-loop-k
-invariant-loop-k l = search_tree l.self ≡ fold see (search_tree l.fn.self) (range_with_len l.edge.first l.k)

@@ -1,8 +1,0 @@
-use Rattle.std.proofs.Common.{◌≡◌, true, map, take}
-use Rattle.std.specs.List.{list_all}
-use Rattle.event_graph.specs.Edges.{edge_tree}
-use Rattle.event_graph.specs.Steady.{is_often}
-use Rattle.event_graph.proofs.steady.are_often.Given as goal
-
-abbrev pub invariant-loop-edge : goal.invariant-loop-edge
-invariant-loop-edge l = list_all is_often (map edge_tree (take l.edge-index l.edges)) ≡ true

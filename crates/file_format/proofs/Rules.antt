@@ -1,5 +1,0 @@
--- Lemmas that go together, for the functions whose goals want them.
-use Rattle.file_format.proofs.Lines.{no_lines, all_left, one_line, none_left}
-
--- For `end_line`.
-pub ruleset of_end_line = (no_lines, all_left, one_line, none_left)

@@ -1,5 +1,0 @@
-use Rattle.file_layer.proofs.OwnUndone.{own_undone}
-use Rattle.file_layer.proofs.own_cells.own_changes_are_undone.Goals as goal
-
-pub returns : goal.returns
-returns c = own_undone

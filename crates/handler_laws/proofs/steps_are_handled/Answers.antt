@@ -1,5 +1,0 @@
-use Rattle.handler_laws.proofs.Handled.{steps_are_handled}
-use Rattle.handler_laws.proofs.steps_are_handled.Goals as goal
-
-pub returns : goal.returns
-returns c = steps_are_handled

@@ -1,0 +1,30 @@
+use Rattle.std.proofs.Common.{rules, ◌∙◌}
+use Rattle.layer_mean.specs.State.{flat_index}
+use Rattle.live_layer.specs.Ready.{layout_of, stock_of}
+use Rattle.live_layer.proofs.ReadyCells.{layout_kept, forms_number, number_fits}
+use Rattle.live_layer.proofs.writes.assign_square.Goals as goal
+
+pub returns-clause-ready : goal.returns-clause-ready
+returns-clause-ready g c =
+    let step = number_fits g.K.Start.begun c.args.pool.now (stock_of c.args.desk.now) c.requires.pool c.requires.fits
+    c.args.square.cell
+    (flat_index c.args.desk.now.cells.count c.args.square.row c.args.square.column) c.args.value c.set_square.new.self
+    c.set_square.ensures in
+    record {
+      pool = step.0;
+      layout = layout_kept (layout_of c.args.desk.now) g.K.Start.begun.layout _ c.requires.layout
+          step.1.rows;
+      fits = step.1;
+      numbers = search rules;
+      messages = search rules;
+      forms =
+          forms_number _ _ c.args.square.cell _ c.args.value c.set_square.ensures ∙ c.requires.forms;
+      sent = search rules;
+    }
+
+pub returns-clause-shown : goal.returns-clause-shown
+returns-clause-shown g c =
+    (number_fits g.K.Start.begun c.args.pool.now (stock_of c.args.desk.now) c.requires.pool c.requires.fits
+    c.args.square.cell
+    (flat_index c.args.desk.now.cells.count c.args.square.row c.args.square.column) c.args.value c.set_square.new.self
+    c.set_square.ensures).2

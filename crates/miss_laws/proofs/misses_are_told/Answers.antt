@@ -1,5 +1,0 @@
-use Rattle.miss_laws.proofs.Told.{misses_are_told}
-use Rattle.miss_laws.proofs.misses_are_told.Goals as goal
-
-pub returns : goal.returns
-returns c = misses_are_told

@@ -1,0 +1,16 @@
+mod Took
+mod Arms
+mod Cells
+mod Opened
+mod ExpressionRules
+mod Writing
+mod Numbering
+mod Fields
+mod Listing
+mod Chaining
+mod Sending
+mod OperationRules
+mod Headings
+mod Bare
+mod Steps
+mod OpenCase

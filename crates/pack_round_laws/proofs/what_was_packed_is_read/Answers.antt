@@ -1,0 +1,5 @@
+use Rattle.pack_round_laws.proofs.Meant.{what_was_packed_is_read}
+use Rattle.pack_round_laws.proofs.what_was_packed_is_read.Goals as goal
+
+pub returns : goal.returns
+returns c = what_was_packed_is_read

@@ -1,5 +1,0 @@
-use Rattle.packed_laws.proofs.Meant.{stacks_are_told_apart}
-use Rattle.packed_laws.proofs.stacks_are_told_apart.Goals as goal
-
-pub returns : goal.returns
-returns c = stacks_are_told_apart

@@ -1,5 +1,0 @@
-use Rattle.packed_laws.proofs.Meant.{what_was_packed_is_read}
-use Rattle.packed_laws.proofs.what_was_packed_is_read.Goals as goal
-
-pub returns : goal.returns
-returns c = what_was_packed_is_read

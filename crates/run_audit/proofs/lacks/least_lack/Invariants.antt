@@ -1,8 +1,0 @@
-use Rattle.std.proofs.Common.{◌≡◌, take, []}
-use Rattle.std.specs.Prelude.{map}
-use Rattle.std.specs.List.{flat_map}
-use Rattle.run_audit.specs.Lacks.{ended_shown, lacks_in}
-use Rattle.run_audit.proofs.lacks.least_lack.Given as goal
-
-abbrev pub invariant-loop-one : goal.invariant-loop-one
-invariant-loop-one l = flat_map (lacks_in (map ended_shown l.ended)) (map ended_shown (take l.one-index l.ended)) ≡ []

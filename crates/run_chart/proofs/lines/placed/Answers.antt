@@ -1,9 +1,0 @@
-use Rattle.std.proofs.Common.{arith}
-use Rattle.run_chart.proofs.Loops.{placed_on}
-use Rattle.run_chart.proofs.lines.placed.Goals as goal
-
-pub loop-place-preserved : goal.loop-place-preserved
-loop-place-preserved c =
-    placed_on c.args.first c.loop-place.place c.args.texts.now _ _ _ _ (omega arith) c.loop-place.invariant.0
-    c.loop-place.invariant.1
-    c.in_ok-push.ensures.items c.line_at.ensures

@@ -1,7 +1,0 @@
-use Rattle.run_chart.specs.Reading.{request_shown}
-use Rattle.run_chart.proofs.Ran.{fetched}
-use Rattle.run_chart.proofs.over_sinks.fetch.Goals as goal
-
-pub returns : goal.returns
-returns g c = fetched (request_shown c.args.request) _ _ _ c.in_ok-text.text.items _ c.in_ok-text.ensures
-    (rw c.deref.ensures.value at c.chart.ensures)

@@ -1,4 +1,0 @@
-use Rattle.run_chart.proofs.picture.draw_axis.Goals as goal
-
-pub returns : goal.returns
-returns c = c.put_line.ensures

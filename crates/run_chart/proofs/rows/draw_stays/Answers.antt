@@ -1,8 +1,0 @@
-use Rattle.std.proofs.Common.{arith}
-use Rattle.run_chart.proofs.Stays.{stays_step}
-use Rattle.run_chart.proofs.rows.draw_stays.Goals as goal
-
-pub loop-line-preserved : goal.loop-line-preserved
-loop-line-preserved c =
-    stays_step c.args.member c.args.end c.args.lines.now c.loop-line.line-index _ _ _ _ _ _ (omega arith)
-    c.in_ok-turn.ensures c.loop-line.invariant

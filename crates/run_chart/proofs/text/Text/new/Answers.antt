@@ -1,4 +1,0 @@
-use Rattle.run_chart.proofs.text.Text.new.Goals as goal
-
-pub returns : goal.returns
-returns c = c.new.ensures.items

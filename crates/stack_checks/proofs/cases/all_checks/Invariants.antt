@@ -1,6 +1,0 @@
-use Rattle.std.proofs.Common.{◌≡◌, map, take}
-use Rattle.stack_checks.specs.Trees.{asked_for, entry_asked}
-use Rattle.stack_checks.proofs.cases.all_checks.Given as goal
-
-abbrev pub invariant-loop-cases : goal.invariant-loop-cases
-invariant-loop-cases l = map entry_asked l.checks.items ≡ map asked_for (take l.cases-index l.all)

@@ -1,5 +1,0 @@
-use Rattle.stack_queue.proofs.Entries.{entries_fit}
-use Rattle.stack_queue.proofs.laws.entries_fit.Goals as goal
-
-pub returns : goal.returns
-returns c = entries_fit

@@ -1,5 +1,0 @@
-use Rattle.symbol_laws.proofs.Replaced.{replaced_are_of_stack}
-use Rattle.symbol_laws.proofs.replaced_are_of_stack.Goals as goal
-
-pub returns : goal.returns
-returns c = replaced_are_of_stack

@@ -1,4 +1,0 @@
-pub mod Same
-pub mod Safe
-pub mod Replaced
-pub mod Samples

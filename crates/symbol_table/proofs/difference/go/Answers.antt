@@ -1,6 +1,0 @@
-use Rattle.std.proofs.Common.{refl}
-use Rattle.symbol_table.proofs.Growing.{not_grown}
-use Rattle.symbol_table.proofs.difference.go.Goals as goal
-
-pub loop-turn-init : goal.loop-turn-init
-loop-turn-init c = (not_grown c.args.table.now, refl, c.requires.first, c.requires.walked)

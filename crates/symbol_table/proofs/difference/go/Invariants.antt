@@ -1,8 +1,0 @@
-use Rattle.std.proofs.Common.{◌≡◌}
-use Rattle.symbol_table.specs.Table.{Grown}
-use Rattle.symbol_table.specs.Steps.{Walked}
-use Rattle.symbol_table.proofs.difference.go.Given as goal
-
-abbrev pub invariant-loop-turn : goal.invariant-loop-turn
-invariant-loop-turn l = Grown l.fn.table l.table × (l.walk.trace ≡ l.fn.walk.trace) × (l.walk.done ≡ l.turn) ×
-    Walked l.table l.walk l.acts.items

@@ -1,4 +1,0 @@
-use Rattle.symbol_table.proofs.sending.+atom_values.Given as goal
-
-abbrev pub decreases-atom_values : goal.decreases-atom_values
-decreases-atom_values l = l.many

@@ -1,5 +1,0 @@
-mod Took
-mod Arms
-mod Cells
-mod Opened
-mod Rules

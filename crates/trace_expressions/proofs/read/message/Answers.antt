@@ -1,6 +1,0 @@
-use Rattle.trace_words.specs.Reading.{left}
-use Rattle.trace_expressions.proofs.Opened.{message_whole}
-use Rattle.trace_expressions.proofs.read.message.Goals as goal
-
-pub returns : goal.returns
-returns c = message_whole c.args.scope.now (left c.args.text.now) _ _ _ c.message.result c.message.ensures

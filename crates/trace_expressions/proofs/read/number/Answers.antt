@@ -1,6 +1,0 @@
-use Rattle.trace_words.specs.Reading.{left}
-use Rattle.trace_expressions.proofs.Opened.{number_whole}
-use Rattle.trace_expressions.proofs.read.number.Goals as goal
-
-pub returns : goal.returns
-returns c = number_whole c.args.scope.now (left c.args.text.now) _ _ _ c.number.result c.number.ensures

@@ -1,6 +1,0 @@
-use Rattle.trace_words.specs.Reading.{left}
-use Rattle.trace_expressions.proofs.Opened.{queue_whole}
-use Rattle.trace_expressions.proofs.read.queue.Goals as goal
-
-pub returns : goal.returns
-returns c = queue_whole c.args.scope.now (left c.args.text.now) _ _ _ c.queue.result c.queue.ensures

@@ -1,7 +1,0 @@
-use Rattle.trace_words.specs.Reading.{left}
-use Rattle.trace_expressions.proofs.Opened.{target_whole}
-use Rattle.trace_expressions.proofs.read.target.Goals as goal
-
-pub returns : goal.returns
-returns c = target_whole c.args.scope.now (left c.args.text.now) _ _ _ _ _ c.target_named.result c.name-name.ensures
-    c.target_named.ensures

@@ -1,3 +1,0 @@
-pub mod Sorts
-pub mod Inside
-pub mod Reading

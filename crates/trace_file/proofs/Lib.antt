@@ -1,4 +1,0 @@
-mod Headings
-mod Bare
-mod Steps
-mod Opened

@@ -1,9 +1,0 @@
-use Rattle.std.proofs.Common.{rules}
-use Rattle.event_graph.specs.Answer.{stack_tree}
-use Rattle.trace_file.proofs.Steps.{idle_line}
-use Rattle.trace_file.proofs.reading.Reading.line.Goals as goal
-
-pub returns-in-Idle : goal.returns-in-Idle
-returns-in-Idle c = idle_line (stack_tree c.args.stack.now) c.args.self.now c.idle_line.new.self c.args.line.now
-    c.idle_line.result
-    (search rules) (c.idle_line.ensures (stack_tree c.args.stack.now))

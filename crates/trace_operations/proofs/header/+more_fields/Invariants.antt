@@ -1,4 +1,0 @@
-use Rattle.trace_operations.proofs.header.+more_fields.Given as goal
-
-abbrev pub decreases-more_fields : goal.decreases-more_fields
-decreases-more_fields l = l.most

@@ -1,5 +1,0 @@
-use Rattle.std.proofs.Common.{length}
-use Rattle.trace_operations.proofs.row.+more_numbers.Given as goal
-
-abbrev pub decreases-more_numbers : goal.decreases-more_numbers
-decreases-more_numbers l = length l.names.now

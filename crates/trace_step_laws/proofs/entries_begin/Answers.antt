@@ -1,5 +1,0 @@
-use Rattle.trace_step_laws.proofs.Entries.{entries_begin}
-use Rattle.trace_step_laws.proofs.entries_begin.Goals as goal
-
-pub returns : goal.returns
-returns c = entries_begin

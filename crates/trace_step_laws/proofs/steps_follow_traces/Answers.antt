@@ -1,5 +1,0 @@
-use Rattle.trace_step_laws.proofs.Entries.{steps_follow_traces}
-use Rattle.trace_step_laws.proofs.steps_follow_traces.Goals as goal
-
-pub returns : goal.returns
-returns c = steps_follow_traces

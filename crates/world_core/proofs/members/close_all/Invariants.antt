@@ -1,8 +1,0 @@
-use Rattle.std.proofs.Common.{length}
-use Rattle.world_core.proofs.members.close_all.Given as goal
-
-abbrev pub invariant-loop-member : goal.invariant-loop-member
-invariant-loop-member l = Unit {0}
-
-abbrev pub decreases-loop-member : goal.decreases-loop-member
-decreases-loop-member l = length l.members.items

@@ -1,5 +1,0 @@
-use Rattle.world_core.proofs.Restarting.{AreAgainTo}
-use Rattle.world_core.proofs.members.restart_all.Given as goal
-
-abbrev pub invariant-loop-id : goal.invariant-loop-id
-invariant-loop-id l = AreAgainTo l.view l.id l.fn.members.items l.members.items

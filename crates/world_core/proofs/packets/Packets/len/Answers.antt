@@ -1,9 +1,0 @@
-use Rattle.std.proofs.Common.{ap, length, arith}
-use Rattle.world_core.proofs.Arena.{count_of}
-use Rattle.world_core.proofs.packets.Packets.len.Goals as goal
-
-pub returns-clause-count : goal.returns-clause-count
-returns-clause-count c =
-    let count = count_of c.self.inside.bytes.items 0 c.self.inside.ends.items in
-    let shown = ap length c.self.view_is in
-    omega (arith, count, shown)
