@@ -8,19 +8,18 @@ room=$(mktemp -d)
 trap 'rm -rf "$room"' EXIT
 tar -C "$top" --exclude=out -cf - crates crates.txt | tar -C "$room" -xf -
 mkdir -p "$room/crates/bench/src"
-below=$(grep -E '^(file_judge|packet_short|packet_wire):' "$top/crates.txt" | tr -d ':' | tr ' ' '\n' | sort -u | tr '\n' ' ')
+below=$(grep -E '^(file_judge|packet_short):' "$top/crates.txt" | tr -d ':' | tr ' ' '\n' | sort -u | tr '\n' ' ')
 echo "bench: $below" >>"$room/crates.txt"
 {
   cat <<'RATTLE'
 #![tactic(auto)]
 
-use stack_judge::Stack;
 use file_judge::judge;
 use msg_core::{Dest, Fields, Header, Headers, Memory, View};
 use packet_full::{PacketView, Scan, form_at};
 use packet_mean::Here;
-use packet_short::{Known, Layouts, fits_scan, most_fields, scan_packet};
-use packet_wire::{put_wire, wire_room_of};
+use packet_short::{Known, Layouts, fits_scan, most_fields, put_wire, scan_packet, wire_room_of};
+use stack_judge::Stack;
 use stack_shapes::{Plan, Plans, StackShapes};
 use std::alloc::Global;
 use std::io;
@@ -31,12 +30,12 @@ const HERE: Here = Here { group: 1, stamp: 2, view: View { ltime: 3, mask: 7 }, 
 
 /// The headers of a packet that fits a plan, with 7 for each variable field.
 fn headers_of(stack: &Stack, plan: &Plan) -> Headers {
-    let mut headers = Headers::none();
+    let mut headers = Headers::new();
     let mut end = plan.fields.len();
     for place in (0..plan.tags.len()).rev() {
         let tag = plan.tags[place];
         let count = match form_at(stack, place as u8, tag) { Some(form) => usize::from(form.fields), None => 0 };
-        let mut fields = Fields::none();
+        let mut fields = Fields::new();
         for k in 0..count {
             fields.push(plan.fields[end - count + k].unwrap_or(7));
         }
@@ -72,14 +71,14 @@ fn next(seed: &mut u64) -> usize {
 /// Whether a datagram that is taken is written and read again as the same packet, in both forms, and fits the plan that reading tells.
 fn is_kept(alloc: Global, known: &Known<'_>, fields: &mut Vec<u32>, bytes: &[u8]) -> Result<Option<bool>, Memory> {
     let plans = known.plans;
-    let mut scan = Scan::none();
+    let mut scan = Scan::new();
     let Ok(told) = scan_packet(known, &HERE, bytes, &mut scan, fields) else { return Ok(None) };
     let mut kept = Vec::new(alloc);
     kept.extend_from_slice(fields.as_slice())?;
     let number = fits_scan(plans, &scan, fields);
     if told.is_some() && (told != number || kept.as_slice() != fields.as_slice()) { return Ok(Some(false)); }
     let full = sent(alloc, plans, None, &scan, bytes)?;
-    let mut again = Scan::none();
+    let mut again = Scan::new();
     let Ok(_) = scan_packet(known, &HERE, full.as_slice(), &mut again, fields) else { return Ok(Some(false)) };
     if number != fits_scan(plans, &again, fields) { return Ok(Some(false)); }
     if number.is_none() { return Ok(Some(bytes == full.as_slice())); }
@@ -101,7 +100,7 @@ fn fuzz(rt: &HostRuntime, alloc: Global, stack: &Stack, plans: &Plans) -> io::Re
     let Ok(full) = sent(alloc, plans, None, &scan, b"hi") else { return Ok(()) };
     let Ok(short) = sent(alloc, plans, Some(0), &scan, b"hi") else { return Ok(()) };
     let Ok(layouts) = Layouts::of(alloc, stack, plans) else { return Ok(()) };
-    let none = Layouts::none(alloc);
+    let none = Layouts::new(alloc);
     let laid = Known { stack, plans, layouts: &layouts };
     let plain = Known { stack, plans, layouts: &none };
     let Ok(mut fields) = Vec::with_capacity(alloc, most_fields(plans)) else { return Ok(()) };

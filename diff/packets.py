@@ -124,11 +124,11 @@ fn section(rt: &HostRuntime, input: &mut Input<'_>) -> io::Result<()> {
     let Ok(laid) = Layouts::of(rt.alloc(), &stack, &plans) else {
         return println!(rt; "no memory");
     };
-    let none = Layouts::none(rt.alloc());
+    let none = Layouts::new(rt.alloc());
     let Ok(mut fields) = Vec::with_capacity(rt.alloc(), most_fields(&plans)) else {
         return println!(rt; "no memory");
     };
-    let mut scan = Scan::none();
+    let mut scan = Scan::new();
     for _ in 0..count {
         let size = input.number() as usize;
         let datagram = input.bytes(size);
