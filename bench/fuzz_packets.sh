@@ -14,12 +14,12 @@ echo "bench: $below" >>"$room/crates.txt"
   cat <<'RATTLE'
 #![tactic(auto)]
 
-use stack_judge::Stack;
 use file_judge::judge;
 use msg_core::{Dest, Fields, Header, Headers, Memory, View};
 use packet_full::{PacketView, Scan, form_at};
 use packet_mean::Here;
 use packet_short::{Known, Layouts, fits_scan, most_fields, put_wire, scan_packet, wire_room_of};
+use stack_judge::Stack;
 use stack_shapes::{Plan, Plans, StackShapes};
 use std::alloc::Global;
 use std::io;

@@ -1,5 +1,5 @@
-//! What no clause says of the edge of the program: that its calls go well, and what the system's own files, streams,
-//! clock and sockets do; that texts are read where there is memory, also at their limits, and what errors print.
+//! What no clause says of the edge of the program, and no run of the program shows: that its calls go well, what the
+//! system's own clock and sockets do, and what errors print.
 #![tactic(auto)]
 
 #[cfg(test)]

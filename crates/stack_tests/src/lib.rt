@@ -5,8 +5,6 @@
 #[cfg(test)]
 mod blocks;
 #[cfg(test)]
-mod datagrams;
-#[cfg(test)]
 mod handlers;
 #[cfg(test)]
 mod packets;

@@ -1,8 +1,8 @@
-//! A layer whose header has a constant and a variable field: its packets and datagrams in both forms.
+//! A layer whose header has a constant and a variable field: its packets in both forms.
 
 use crate::writing::{RUNS, Reader, Run, fitting, scanned, sent};
 use file_judge::judge;
-use msg_core::{Dest, Fields, Header, Headers, Memory, Stray, View};
+use msg_core::{Dest, Fields, Header, Headers, View};
 use packet_full::Scan;
 use packet_mean::Here;
 use stack_judge::Stack;
@@ -144,82 +144,6 @@ fn the_short_form_is_read(rt: HostRuntime) -> Result<(), Fail> {
         assert_eq!(rt; scan.body, 24);
         let again = sent(alloc, &plans, &SENDER, &scanned(&scan, b"hi", None))?;
         assert_eq!(rt; again.as_slice(), FULL.as_slice());
-    }
-    Ok(())
-}
-
-/// What the member of rank 1 says of the short form with a byte at two places.
-fn changed(
-    alloc: Global,
-    reader: &Reader<'_>,
-    places: [usize; 2],
-    byte: u8,
-) -> Result<Option<Stray>, Memory> {
-    let mut bytes = SHORT;
-    for place in places {
-        if place < bytes.len() {
-            bytes[place] = byte;
-        }
-    }
-    reader.refusal(alloc, &bytes)
-}
-
-#[test]
-fn each_prefix_is_judged(rt: HostRuntime) -> Result<(), Fail> {
-    let alloc = rt.alloc();
-    let stack = stack(&rt, alloc);
-    let plans = StackShapes::of(alloc, &stack)?.plans;
-    for run in RUNS {
-        let reader = reader(&stack, &plans, run);
-        for length in 0..27 {
-            let cause = match length {
-                0..19 => Some(Stray::Short),
-                19 => Some(Stray::Plan),
-                20..24 => Some(Stray::Chain),
-                _ => None,
-            };
-            let said = reader.refusal(alloc, &SHORT[..length])?;
-            assert_eq!(rt; said, cause);
-        }
-        for length in 0..31 {
-            let cause = match length {
-                0..19 => Some(Stray::Short),
-                19..28 => Some(Stray::Chain),
-                _ => None,
-            };
-            let said = reader.refusal(alloc, &FULL[..length])?;
-            assert_eq!(rt; said, cause);
-        }
-    }
-    Ok(())
-}
-
-/// Bytes that are put at two places, and the first of the two causes that they are.
-const CHANGES: [([usize; 2], u8, Option<Stray>); 7] = [
-    ([0, 4], 9, Some(Stray::Form)),
-    ([4, 8], 9, Some(Stray::Group)),
-    ([8, 16], 9, Some(Stray::Stamp)),
-    ([16, 17], 3, Some(Stray::View)),
-    ([17, 18], 4, Some(Stray::Sender)),
-    ([18, 19], 2, Some(Stray::Dest)),
-    ([18, 19], 1, None),
-];
-
-#[test]
-fn each_plan_and_the_first_cause_are_judged(rt: HostRuntime) -> Result<(), Fail> {
-    let alloc = rt.alloc();
-    let stack = stack(&rt, alloc);
-    let plans = StackShapes::of(alloc, &stack)?.plans;
-    for run in RUNS {
-        let reader = reader(&stack, &plans, run);
-        for number in 0..=255 {
-            let is_plan = changed(alloc, &reader, [19, 19], number)?.is_none();
-            assert_eq!(rt; is_plan, number == 0);
-        }
-        for (places, byte, cause) in CHANGES {
-            let said = changed(alloc, &reader, places, byte)?;
-            assert_eq!(rt; said, cause);
-        }
     }
     Ok(())
 }

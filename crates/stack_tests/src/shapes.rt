@@ -1,8 +1,8 @@
-//! Stacks of silent layers: their weight, their shapes and their plans.
+//! A stack of silent layers: what has no shape, and which steps are common.
 
 use file_judge::judge;
 use layer_words::{Dir, Kind};
-use shape_core::{Absent, Known, Source, shapes};
+use shape_core::{Absent, Known, shapes};
 use stack_judge::Stack;
 use stack_shapes::{EntryOf, StackShapes};
 use std::alloc::Global;
@@ -18,44 +18,6 @@ fn two_silent(rt: &impl Abort, alloc: Global) -> Stack {
 }
 
 #[test]
-fn events_pass_silent_layers(rt: HostRuntime) {
-    let stack = two_silent(&rt, rt.alloc());
-    assert_eq!(rt; stack.weight(), 3);
-    assert_eq!(rt; stack.places(), 2);
-    assert_eq!(rt; stack.rows(32), 0);
-}
-
-#[test]
-fn a_cast_passes_down(rt: HostRuntime) -> Result<(), Fail> {
-    let alloc = rt.alloc();
-    let stack = two_silent(&rt, alloc);
-    let cast = Known {
-        dir: Dir::Down,
-        kind: Kind::Cast,
-        tags: Vec::new(alloc),
-    };
-    let shapes = shapes(alloc, &stack, &cast)?;
-    let Ok(shape) = &shapes.first else {
-        panic!(rt; "the cast has no shape")
-    };
-    assert_eq!(rt; shape.length, 1);
-    assert_eq!(rt; shape.visits.len(), 2);
-    assert_eq!(rt; shape.visits[0].place, 1);
-    assert_eq!(rt; shape.visits[0].made_by, None);
-    assert_eq!(rt; shape.visits[1].place, 0);
-    assert_eq!(rt;
-        shape.visits[1].made_by,
-        Some(Source {
-            visit: 0,
-            emission: 0
-        })
-    );
-    assert_eq!(rt; shape.outs.len(), 1);
-    assert_eq!(rt; shape.outs[0].headers.len(), 2);
-    Ok(())
-}
-
-#[test]
 fn a_strange_header_is_never_predicted(rt: HostRuntime) -> Result<(), Fail> {
     let alloc = rt.alloc();
     let stack = two_silent(&rt, alloc);
@@ -67,20 +29,6 @@ fn a_strange_header_is_never_predicted(rt: HostRuntime) -> Result<(), Fail> {
     let shapes = shapes(alloc, &stack, &packet)?;
     assert!(rt; matches!(shapes.first, Err(Absent::Rare(1))));
     assert!(rt; matches!(shapes.second, Err(Absent::Same)));
-    Ok(())
-}
-
-#[test]
-fn own_casts_and_sends_have_plans(rt: HostRuntime) -> Result<(), Fail> {
-    let alloc = rt.alloc();
-    let stack = two_silent(&rt, alloc);
-    let shapes = StackShapes::of(alloc, &stack)?;
-    let list = shapes.plans.slice();
-    assert_eq!(rt; list.len(), 2);
-    assert_eq!(rt; list[0].kind, Kind::Cast);
-    assert_eq!(rt; list[1].kind, Kind::Send);
-    assert_eq!(rt; list[1].tags.len(), 2);
-    assert_eq!(rt; list[1].fields.len(), 0);
     Ok(())
 }
 

@@ -1,5 +1,10 @@
 //! What members send and read, by the calls that the program makes.
 
+ghost use Rattle.std.specs.Prelude.{IfOk};
+ghost use Rattle.stack_judge.specs.Answer.{stack_tree};
+ghost use Rattle.stack_shapes.specs.Trees.{plans_tree};
+ghost use Rattle.packet_short.specs.Layouts.{AreLaidOut};
+
 use msg_core::{Memory, Stray};
 use packet_full::{PacketView, Scan};
 use packet_mean::Here;
@@ -63,6 +68,16 @@ pub struct Reader<'a> {
     pub run: Run,
 }
 
+/// The plans by which a member reads, laid out where it runs by code.
+fn laid_out(alloc: Global, reader: &Reader<'_>) -> Result<Layouts, Memory>
+    ensures { IfOk result (AreLaidOut (stack_tree reader.now.stack.now) (plans_tree reader.now.plans.now)) }
+{
+    match reader.run {
+        Run::ByCode => Layouts::of(alloc, reader.stack, reader.plans),
+        Run::Layered => Ok(Layouts::new(alloc)),
+    }
+}
+
 impl Reader<'_> {
     /// What it takes of a datagram, which is read into a scan, or why it refuses it.
     pub fn read(
@@ -71,10 +86,7 @@ impl Reader<'_> {
         bytes: &[u8],
         scan: &mut Scan,
     ) -> Result<Result<Told, Stray>, Memory> {
-        let layouts = match self.run {
-            Run::ByCode => Layouts::of(alloc, self.stack, self.plans)?,
-            Run::Layered => Layouts::new(alloc),
-        };
+        let layouts = laid_out(alloc, self)?;
         let known = Known {
             stack: self.stack,
             plans: self.plans,
@@ -84,14 +96,6 @@ impl Reader<'_> {
         match scan_packet(&known, self.here, bytes, scan, &mut fields) {
             Ok(plan) => Ok(Ok(Told { plan, fields })),
             Err(cause) => Ok(Err(cause)),
-        }
-    }
-
-    /// The cause for which it refuses a datagram; none where it takes it.
-    pub fn refusal(&self, alloc: Global, bytes: &[u8]) -> Result<Option<Stray>, Memory> {
-        match self.read(alloc, bytes, &mut Scan::new())? {
-            Ok(_) => Ok(None),
-            Err(cause) => Ok(Some(cause)),
         }
     }
 }
