@@ -104,7 +104,7 @@ pub(crate) fn target_named(
 
 /// The node of a number of a cell that a name begins.
 #[cycle(expressions)]
-#[tactic(auto, using(crate::proofs::Rules::of_cell_number))]
+#[tactic(auto, using(crate::proofs::ExpressionRules::of_cell_number))]
 fn cell_number(
     text: &mut Text<'_>,
     scope: &Scope<'_>,
@@ -210,7 +210,7 @@ fn length(
 
 /// `at(QUEUE,ROW).NAME`, after its word.
 #[cycle(expressions)]
-#[tactic(auto, using(crate::proofs::Rules::of_item))]
+#[tactic(auto, using(crate::proofs::ExpressionRules::of_item))]
 fn item(
     text: &mut Text<'_>,
     scope: &Scope<'_>,
@@ -260,7 +260,7 @@ fn size(
 
 /// `pick(CONDITION,FIRST,SECOND)`, after its word.
 #[cycle(expressions)]
-#[tactic(auto, using(crate::proofs::Rules::of_choice))]
+#[tactic(auto, using(crate::proofs::ExpressionRules::of_choice))]
 fn choice(
     text: &mut Text<'_>,
     scope: &Scope<'_>,
@@ -418,7 +418,7 @@ pub(crate) fn number(
 
 /// `held(QUEUE,ROW)`, after its word.
 #[cycle(expressions)]
-#[tactic(auto, using(crate::proofs::Rules::of_held))]
+#[tactic(auto, using(crate::proofs::ExpressionRules::of_held))]
 fn held(
     text: &mut Text<'_>,
     scope: &Scope<'_>,
@@ -448,7 +448,7 @@ fn held(
 
 /// `cut(MESSAGE,FROM,LENGTH)`, after its word.
 #[cycle(expressions)]
-#[tactic(auto, using(crate::proofs::Rules::of_cut))]
+#[tactic(auto, using(crate::proofs::ExpressionRules::of_cut))]
 fn cut(
     text: &mut Text<'_>,
     scope: &Scope<'_>,

@@ -38,7 +38,7 @@ fn with_field(fields: Atoms, field: Atom) -> Result<Atoms, AllocError>
 }
 
 /// `count` more fields, each after a comma.
-#[tactic(auto, using(crate::proofs::Rules::of_more_fields))]
+#[tactic(auto, using(crate::proofs::OperationRules::of_more_fields))]
 fn more_fields(
     text: &mut Text<'_>,
     scope: &Scope<'_>,

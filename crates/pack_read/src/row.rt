@@ -35,7 +35,7 @@ fn with_node(nodes: Fields, node: u32) -> Result<Fields, AllocError>
 }
 
 /// A number for each of these names, each after a comma.
-#[tactic(auto, using(crate::proofs::Rules::of_more_numbers))]
+#[tactic(auto, using(crate::proofs::OperationRules::of_more_numbers))]
 fn more_numbers(
     text: &mut Text<'_>,
     scope: &Scope<'_>,
@@ -57,7 +57,7 @@ fn more_numbers(
 }
 
 /// A number for each of these names, with commas between.
-#[tactic(auto, using(crate::proofs::Rules::of_some_numbers))]
+#[tactic(auto, using(crate::proofs::OperationRules::of_some_numbers))]
 fn some_numbers(
     text: &mut Text<'_>,
     scope: &Scope<'_>,

@@ -51,7 +51,7 @@ fn with_number(numbers: Atoms, atom: Atom) -> Atoms
 }
 
 /// At most `most` numbers after these, and a message.
-#[tactic(auto, using(crate::proofs::Rules::of_sent_within))]
+#[tactic(auto, using(crate::proofs::OperationRules::of_sent_within))]
 fn sent_within(
     text: &mut Text<'_>,
     scope: &Scope<'_>,
