@@ -10,4 +10,4 @@ pub returns-in-Ok-play : goal.returns-in-Ok-play
 returns-in-Ok-play c =
     reports c.args.file.now (stack_tree c.in-Ok.stack) c.args.script.now _ _ c.contents.result.now
     c.in_ok-copy_of-in-Ok-play.field-0.items c.in-Ok.ensures
-    c.in-Ok-play.ensures.1 c.new-sink.ensures.contents c.contents.ensures c.in_ok-copy_of-in-Ok-play.ensures
+    c.in-Ok-play.ensures.1 c.of-sink.ensures.contents c.contents.ensures c.in_ok-copy_of-in-Ok-play.ensures
