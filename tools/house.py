@@ -26,7 +26,7 @@ BOUNDS = {
     "bodies": 40,  # of over LONGEST_BODY lines
     "arguments": 65,  # functions that take over MOST_ARGUMENTS
     "wide": 8,  # lines of over COLUMNS columns
-    "bare": 11,  # public items of the code without a comment
+    "bare": 4,  # public items of the code without a comment
     "bare definitions": 0,  # public definitions of crates of meanings without a comment
     "types": 0,  # names of public types that stand in MANY_CRATES crates
     "homes": 8,  # limits with a second home, and names with one number in two crates

@@ -39,6 +39,7 @@ pub struct Layer {
     pub handlers: Vec<Handler>,
 }
 
+/// A declaration of a layer, with its place.
 #[derive(Drop)]
 pub enum Declaration {
     /// `"param" NAME "=" NUMBER ";"`
@@ -148,6 +149,7 @@ pub struct Block {
     pub statements: Vec<Statement>,
 }
 
+/// A statement of a handler, with its place.
 #[cycle(statement)]
 #[derive(Drop)]
 pub enum Statement {
@@ -242,6 +244,7 @@ pub enum Argument {
     Content(Built),
 }
 
+/// An expression as it is written, of a number or of a message, with its place.
 #[cycle(expression)]
 #[derive(Drop)]
 pub enum Expression {

@@ -94,13 +94,6 @@ impl Message {
         }
     }
 
-    /// How many headers there are.
-    pub fn header_count(&self) -> usize
-        ensures { result ≡ length self.now.headers }
-    {
-        self.headers.len()
-    }
-
     /// The header number `k`, of those that there are.
     pub fn header_at(&self, k: usize) -> &Header
         requires { k < length self.now.headers }

@@ -3,6 +3,7 @@ ghost use Rattle.std.specs.Prelude.{◌≡◌};
 ghost use Rattle.std.specs.Option.{option_copied};
 ghost use Rattle.outside.specs.NamedFile.{file_named};
 
+/// A file that is held in memory: its name and its bytes.
 #[derive(Drop)]
 pub struct NamedFile {
     pub name: String,

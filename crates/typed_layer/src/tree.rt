@@ -108,6 +108,7 @@ pub struct StatementBlock {
     pub statements: Vec<Statement>,
 }
 
+/// A statement whose names are resolved: numbers of the scope, cells, queues and headers by their places.
 #[cycle(statement)]
 #[derive(Drop)]
 pub enum Statement {
@@ -249,6 +250,7 @@ impl Numbers {
     }
 }
 
+/// An expression that is worth a number.
 #[cycle(expression)]
 #[derive(Drop)]
 pub enum Expression {
@@ -305,6 +307,7 @@ pub enum Expression {
     },
 }
 
+/// An expression that is worth a message.
 #[cycle(expression)]
 #[derive(Drop)]
 pub enum MessageExpression {
