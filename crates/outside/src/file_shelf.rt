@@ -1,13 +1,13 @@
 // The files of the system.
-ghost use Rattle.std.specs.Prelude.{◌≡◌, IfSome, None, [], ◌≤◌, length};
+ghost use Rattle.std.specs.Prelude.{◌≡◌, IfOk, IfSome, None, [], ◌≤◌, length};
 ghost use Rattle.outside.specs.declared.shelf.ShelfError.TheVariants.{Failed};
-ghost use Rattle.outside.specs.Shelf.{Fills};
+ghost use Rattle.outside.specs.Shelf.{Fills, faults_after_read};
 ghost use Rattle.outside.specs.Stream.{ReadsStream};
 
 use crate::count::count_after;
 use crate::{Got, Shelf, ShelfError};
 use std::fs;
-use std::io::{Error, ErrorKind, Read};
+use std::io::{self, Error, ErrorKind, Read};
 use std::rt::Files;
 
 const PIECE: usize = 16384;
@@ -41,16 +41,32 @@ impl<R: Files + Drop> Shelf for FileShelf<R> {
     ghost told = { λ _. None };
 
     fn read(&mut self, name: &str, into: &mut Vec<u8>, most: u64) -> Result<Got, ShelfError> {
-        into.clear();
-        let read = match fs::open(&self.files, name) {
-            Ok(mut file) => read_stream(&mut file, into, most),
-            Err(error) => Err(error_of(&error)),
-        };
-        if read == Err(ShelfError::Failed) {
-            self.faults = count_after(self.faults);
-        }
-        read
+        read_opened(fs::open(&self.files, name), into, most, &mut self.faults)
     }
+}
+
+/// Empties the buffer, and reads into it what was opened, to its end if that isn't too far. Where it wasn't opened or
+/// can't be read, the count rises.
+fn read_opened<S: Read + Drop>(
+    opened: io::Result<S>,
+    into: &mut Vec<u8>,
+    most: u64,
+    faults: &mut u64,
+) -> Result<Got, ShelfError>
+    ensures counted { faults.new ≡ faults_after_read faults.old result }
+    ensures filled { Fills most into.new.items result }
+    ensures answered { IfOk opened (λ stream. IfSome (S.remaining stream)
+        (λ bytes. ReadsStream most bytes into.new.items result)) }
+{
+    into.clear();
+    let read = match opened {
+        Ok(mut stream) => read_stream(&mut stream, into, most),
+        Err(error) => Err(error_of(&error)),
+    };
+    if read == Err(ShelfError::Failed) {
+        *faults = count_after(*faults);
+    }
+    read
 }
 
 fn error_of(error: &Error) -> ShelfError {

@@ -29,7 +29,7 @@ pub struct StdSink<W: Write + Drop> {
 }
 
 impl<W: Write + Drop> StdSink<W> {
-    ghost use Rattle.outside.specs.Stream.{stream_of};
+    ghost use Rattle.outside.specs.Stream.{stream_of, IsBeginning};
 
     /// A sink over the stream, which gathers up to 64 KiB.
     pub fn new(alloc: Global, stream: W) -> Result<Self, AllocError>
@@ -52,6 +52,7 @@ impl<W: Write + Drop> StdSink<W> {
         ensures kept { Keeps (⟦<StdSink<W> as Sink>⟧.contents self.old) (⟦<StdSink<W> as Sink>⟧.contents self.new) }
         ensures written { OnOk result
             (Keeps (⟦<StdSink<W> as Sink>⟧.contents self.old) (W.contents (stream_of self.new))) }
+        ensures begun { IsBeginning (W.contents (stream_of self.new)) (⟦<StdSink<W> as Sink>⟧.contents self.old) }
         ensures memory { result ≢ Err Memory }
     {
         if self.hand_on() && self.stream.flush().is_ok() {

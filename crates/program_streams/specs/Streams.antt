@@ -3,7 +3,7 @@ use Rattle.std.specs.Prelude.{◌≡◌, ℕ, Bool, true, false, List, Option}
 use Rattle.std.specs.Io.KnownBytes.{Keeps}
 use Rattle.std.specs.declared.io.traits.Write as writes
 use Rattle.outside.specs.Count.{Rose}
-use Rattle.outside.specs.Stream.{stream_of}
+use Rattle.outside.specs.Stream.{stream_of, IsBeginning}
 use Rattle.outside.specs.Tells.{Tells, tells_of}
 use Rattle.outside.specs.declared.sink.Sink as outputs
 use Rattle.outside.specs.declared.std_sink.StdSink.{StdSink}
@@ -22,7 +22,7 @@ stream before after holds = record { before = before; after = after; holds = hol
 abbrev pub over : {W : Type 0} (w : writes.Ghosts W) → outputs.Ghosts (StdSink W w) → (old new : StdSink W w) → Stream
 over w sink old new = stream (tells_of sink old) (tells_of sink new) (w.contents (stream_of new))
 
--- The stream got all that was put, and no fault was counted; or not, and the count of faults rose.
+-- The stream got all that was put, and no fault was counted; or a beginning of it, and the count of faults rose.
 abbrev pub HandsOn : Tells → Tells → Option (List ℕ) → Bool → Type 0
 HandsOn put after holds true = Keeps put.contents holds × (after.faults ≡ put.faults)
-HandsOn put after holds false = Rose put.faults after.faults
+HandsOn put after holds false = Rose put.faults after.faults × IsBeginning holds put.contents
