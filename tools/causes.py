@@ -12,7 +12,9 @@ import reading  # noqa: E402
 import unexpected  # noqa: E402
 
 WORD = re.compile(rb"[A-Za-z0-9_]+")
-MEANT = {"true": "1", "false": "0", "self": "me", "rank": "me", "N": "n", "members": "n", "time": "the number of a Timer"}
+MEANT = {"true": "1", "false": "0", "self": "me", "rank": "me", "N": "n", "members": "n"}
+MEANT.update({word: "the first argument of `up Timer(t)`" for word in ("time", "now", "clock")})
+MEANT.update({word: "the first argument of `up Cast(o, m)`" for word in ("sender", "origin", "from")})
 # A longer text isn't read again, which would take seconds, and a cause is said as it is.
 LONGEST_READ = 300_000
 PLAIN = {
@@ -67,11 +69,11 @@ def listed(words, last="or"):
     return words[0] if len(words) == 1 else ", ".join(words[:-1]) + f" {last} {words[-1]}"
 
 
-def like(word, known):
+def like(word, known, near=0.7):
     """What may be meant by a word."""
     if word in MEANT:
         return f"; is {MEANT[word] if ' ' in MEANT[word] else '`' + MEANT[word] + '`'} meant?"
-    near = difflib.get_close_matches(word, sorted(known), 1, 0.7)
+    near = difflib.get_close_matches(word, sorted(known), 1, near)
     return f"; is `{near[0]}` meant?" if near else ""
 
 
@@ -92,10 +94,12 @@ def token(text, at):
         return f"a word has at most 32 bytes, and this one has {len(word.group())}"
     if rest[:2] in (b"//", b"/*"):
         return "a comment begins with `#`, and goes to the end of its line"
-    special = {b"!": "there is no `!` but in `!=`: `not(x)` is 1 where x is 0", b"/": "there is no division", b"%": "there is no remainder; `&` works on bits"}
-    special.update({quote: "there are no texts in quotes" for quote in (b'"', b"'", b"`")})
+    special = {b"!": "there is no `!` but in `!=`: `not(x)` is 1 where x is 0", b"/": "there is no division", b"%": "there is no remainder; the rank after one's own is `pick(((me + 1) == n), 0, (me + 1))`"}
+    special.update({quote: "there are no texts in quotes: a layer passes bodies on, and what it tells other layers are numbers in headers" for quote in (b'"', b"'", b"`")})
     if here in special:
         return special[here]
+    if rest[:3] == b"\xef\xbb\xbf":
+        return "the file begins with a byte order mark: it is to be saved without one"
     return f"{letter(rest)} is no sign of the language"
 
 
@@ -168,7 +172,7 @@ def unknown(text, at):
             return f"rows of `{part['queue'][0][0]}` have no item `{word}`" + (f", but {listed(items, 'and')}" if items else "")
         if part.get("with") and part["with"][0][1] == at:
             headers = [d["name"][0] for d in layer["declared"] if d["what"] == "header"]
-            return f"the layer `{layer['name'][0]}` has no header `{word}`" + like(word, headers)
+            return f"the layer `{layer['name'][0]}` has no header `{word}`" + like(word, headers, 0.6)
     return f"there is no `{word}` here" + elsewhere(layer, word, at)
 
 

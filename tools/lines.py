@@ -281,6 +281,9 @@ def report_line(text, number, line):
         raise Fault(0, f"`end N` stands once, and is in line {ended[0] + 1} already: of reports that are put together the last one's stays")
     if ended and not (verb == "visits" and number == ended[0] + 2):
         raise Fault(0, f"the report has ended in line {ended[0] + 1}")
+    if verb in ("group", "layer", "stack"):
+        what = "a script: `replay` makes a report of it" if verb == "group" else "a layer file: `replay` makes a report of it and a script"
+        raise Fault(0, f"`{verb}` begins no line of a report; this looks like {what}")
     if verb not in REPORTED:
         raise Fault(0, f"`{verb}` begins no line of a report" + like(verb, REPORTED))
     if verb == "visits" and not ended:

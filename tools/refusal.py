@@ -39,7 +39,7 @@ def run(words):
     for number in (signal.SIGINT, signal.SIGTERM, signal.SIGHUP, signal.SIGQUIT):
         if signal.getsignal(number) != signal.SIG_IGN:
             signal.signal(number, lambda number, _: program.send_signal(number) if program else came.append(number))
-    program = subprocess.Popen(words, stderr=subprocess.PIPE)
+    program = subprocess.Popen(words, stderr=subprocess.PIPE, close_fds=False)  # (a word may be the name of an open file, as `<(..)` is)
     for number in came:
         program.send_signal(number)
     said = b""

@@ -11,6 +11,7 @@ import reading  # noqa: E402
 
 BRACKETS = {"{": "}", "(": ")", "[": "]"}
 FUNCTIONS = set("not bit count lowest size len at held cut tail join pick".split())
+CHOICES = {"min": "`pick((a < b), a, b)` is the smaller", "max": "`pick((a > b), a, b)` is the larger"}
 NAME, NUMBER = "a name", "a number"
 
 
@@ -102,6 +103,11 @@ class Stop:
         """Whether a value stands after a parenthesis, and an operator is wanted."""
         return self.part == "expression" and not self.starts and self.within("expression")[0] == "(" and self.wanted in ([], ["["])
 
+    def follows_a_value(self):
+        """Whether the token before is a name that stands for a value."""
+        kinds, words = [token[0] for token, _, _ in self.passed], [token[1] for token, _, _ in self.passed]
+        return kinds[-1:] == ["name"] and words[-2:-1] and words[-2] in ("=", "(", "[", ",") + tuple(reading.OPERATORS)
+
     def within(self, name):
         """The innermost part of this name: its first token and its place."""
         return next(((token[1], at) for part, token, at in reversed(self.inside) if part == name), (None, None))
@@ -186,9 +192,17 @@ def compares(s):
     return None
 
 
+def shifts(s):
+    if s.sees("<", ">") and s.before == s.word:
+        return "there is no shift: `(k * 2)` is twice `k`, and `bit(i)` is 1 at bit `i`"
+    return None
+
+
 def leading_sign(s):
     if s.part == "expression" and s.starts and s.sees("-", "+"):
         return "a number has no sign, and none is below 0: `(0 - 1)` is 4294967295"
+    if s.part == "statement" and s.wanted[-1:] == ["="] and s.sees("=="):
+        return "`=` sets a cell, and `==` compares: `set k = 1;`"
     if s.part == "statement" and s.wanted[-1:] == ["="] and s.word in reading.OPERATORS:
         return f"there is no `{s.word}=`: `set k = (k {s.word} 1);` sets a cell"
     return None
@@ -214,6 +228,24 @@ def lone_value(s):
 def function(s):
     if s.before in FUNCTIONS and s.wanted == ["("]:
         return f"`{s.before}` is a function, and its operands stand in parentheses: `{s.before}(..)`"
+    if s.part == "expression" and s.starts and s.word in CHOICES:
+        return f"there is no function `{s.word}`: {CHOICES[s.word]}"
+    if s.sees("(") and s.follows_a_value():
+        return no_function(s.before)
+    return None
+
+
+def no_function(name):
+    if name in CHOICES:
+        return f"there is no function `{name}`: {CHOICES[name]}"
+    if name in ("byte", "bytes", "get", "read"):
+        return f"there is no function `{name}`: a layer can't read the bytes of a body; numbers travel in headers"
+    return f"there is no function `{name}`; those of numbers are `not`, `bit`, `count`, `lowest`, `size`, `len`, `at` and `pick`"
+
+
+def field(s):
+    if s.sees(".") and s.follows_a_value():
+        return "the fields of a header get names where it is taken off: `up Cast(o, m) with num(seq)`; those of a row are `at(queue, i).name`"
     return None
 
 
@@ -227,7 +259,8 @@ def statement(s):
     if s.sees("int"):
         return "a value gets a name by `let x = ..;`, and cells are declared before the layer's handlers"
     if s.sees(*reading.KINDS):
-        return f"an event is sent `up` or `down`: `down {s.word}(..);`"
+        arguments = "p, m" if s.word in reading.CARRIES else ".."
+        return f"an event is sent `up` or `down`: `down {s.word}({arguments});`"
     if s.sees("param", "state", "header"):
         return "params, cells and headers are declared before the layer's handlers" + (": is a `}` missing?" if s.line > 1 else "")
     if s.sees("else"):
@@ -277,8 +310,12 @@ def in_statement(s):
     last = s.wanted[-1:]
     if last == ["max"]:
         return "a loop says how often it goes at most: `each i below n max 32 { .. }`"
+    if last == ["{"] and s.part == "block" and s.sees("with"):
+        return "`with` stands directly after the arguments, before `common`"
     if last == ["{"] and s.part == "block":
         return "a block in braces is wanted here, for one statement too"
+    if s.before == "if" and s.sees("common"):
+        return "the block of a plain `if` is the common one: `if (..) { .. }`; `if rare` says that it isn't"
     if s.part in ("argument", "expression") and s.starts and s.sees(")"):
         return "an event has arguments, and so has each of its headers' fields a value"
     if s.part == "expression" and s.starts and s.sees(*reading.Parser.BUILDS):
@@ -310,7 +347,8 @@ def plainly(s):
 
 
 RULES = (
-    at_end, too_deep, after_else, no_else, at_file, reserved, no_name, event_kind, doubled, compares, leading_sign, operation, lone_value, function, statement,
+    at_end, too_deep, after_else, no_else, at_file, reserved, no_name, event_kind, doubled, compares, shifts, leading_sign, field, function, operation, lone_value,
+    statement,
     in_layer, in_declaration, in_statement, semicolon,
 )
 

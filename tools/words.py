@@ -128,6 +128,8 @@ def value_of(option, value, wanted, left):
         return None
     if value is not None:
         return value
+    if left and left[0][:1] == "-" and left[0][1:].isdigit():
+        raise NoJob(f"`{option}` is a number in plain digits, and none is below 0")
     if not left or (left[0].startswith("-") and left[0] != "-"):
         raise NoJob(f"`{option}` needs a value after it: `{option} {wanted}`")
     return left.pop(0)
@@ -150,7 +152,8 @@ def fits(option, value, form):
         return
     if form[0] == "one":
         if value not in form[1:]:
-            raise NoJob(f"`{option}` is " + " or ".join(f"`{word}`" for word in form[1:]) + f", and not `{value}`")
+            meant = "; `sender` asks for the order of each sender's casts" if value.lower() in ("fifo", "order") and "sender" in form else ""
+            raise NoJob(f"`{option}` is " + " or ".join(f"`{word}`" for word in form[1:]) + f", and not `{value}`" + meant)
         return
     low, high = int(form[1]), int(form[2])
     if form[0] == "number":
