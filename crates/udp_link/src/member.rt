@@ -63,16 +63,22 @@ impl Member {
         matches!(self.socket.send_to(bytes, to), Ok(count) if count == bytes.len())
     }
 
-    /// A datagram that waits, which now stands at the front of `into`.
+    /// A datagram that waits, which now stands at the front of `into`. A receive that a signal interrupts, as where the
+    /// process is stopped and goes on, met none.
     pub(crate) fn recv(&self, into: &mut [u8]) -> io::Result<Option<usize>>
         ensures { IfOk result (λ got. IfSome got (λ count. count ≤ length into.new)) }
     {
         match self.socket.recv_from(into) {
             Ok((count, _)) => Ok(Some(count)),
-            Err(error) if error.kind() == ErrorKind::WouldBlock => Ok(None),
+            Err(error) if is_none_yet(error.kind()) => Ok(None),
             Err(error) => Err(error),
         }
     }
+}
+
+// Whether a receive that ends so only met no datagram.
+fn is_none_yet(kind: ErrorKind) -> bool {
+    kind == ErrorKind::WouldBlock || kind == ErrorKind::Interrupted
 }
 
 // The peers, with nobody after them.
