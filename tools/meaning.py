@@ -1,5 +1,6 @@
 """What a refusal means: the line of the file that it names with a caret, and a sentence."""
 import os
+import socket
 
 import causes
 import lines
@@ -66,8 +67,26 @@ def fault_told(path):
         return f"{clean(path)}: {fault.strerror}\n"
 
 
-def link_told(given):
-    """Why a node's network may have failed."""
+def listen_fault(place):
+    """Why nobody can listen at an address; nothing where that goes well now."""
+    host, _, port = place.rpartition(":")
+    with socket.socket(socket.AF_INET, socket.SOCK_DGRAM) as tried:
+        try:
+            tried.bind((host, int(port)))
+        except OSError as fault:
+            return fault.strerror
+    return ""
+
+
+def link_told(places, given):
+    """Which own member of a node can't listen, where, and what the system says of that; or that one couldn't, or that receives failed."""
+    text = bytes_of(places["PLAN"]) or b""
+    words = [line.decode("latin-1").split() for line in text.split(b"\n") if line.startswith(b"peer ")]
+    peers = {number: place for _, number, place in words}
+    for member in given["--me"].split(","):
+        fault = member in peers and listen_fault(peers[member])
+        if fault:
+            return f"stackc: member {member} can't listen at {peers[member]}: {fault}\n"
     borne = given.get("--patience", "0")
     return f"stackc: a member of `--me {clean(given['--me'])}` couldn't listen at its address, or more than {clean(borne)} receives failed (`--patience`)\n"
 
@@ -151,7 +170,8 @@ def meaning(status, said, words):
             _, places, given = table.read(words)
             return next(filter(None, (fault_told(path) for path in [*places.values(), *filter(None, [given.get("--with")])])), "")
         if status == 6 and said == "link fault":
-            return link_told(table.read(words)[2])
+            _, places, given = table.read(words)
+            return link_told(places, given)
     except NoJob:
         pass
     return ""

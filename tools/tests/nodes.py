@@ -1,9 +1,16 @@
 #!/usr/bin/env python3
-"""Runs nodes of the program in $STACKC over the loopback: all members of a group in one node, whose journal replays to the rest of it, and one whose packets come here."""
+"""Runs nodes of the program in $STACKC over the loopback: all members of a group in one node, whose journal replays to the rest of it; one whose packets come here;
+one whose place is taken, and what a terminal says of that; and one that is stopped and goes on."""
+import os
+import signal
 import socket
+import subprocess
+import sys
+import time
 
 from journals import free_ports
-from program import runs
+from program import PROGRAM, runs
+from tree import TOP
 
 LAYERS = """layer cnt {
   state int k;
@@ -51,6 +58,40 @@ def to_a_stranger(made):
         made.compare("what it sent", [other.recv(65536), other.recv(65536)], [SEND, CAST])
 
 
+def taken_place(made):
+    """A node of members 0 and 2, of which the place of 2 is taken; and what is said of that at a terminal, and once the place is free again."""
+    ports = free_ports(3)
+    made.put("a.plan", GROUP + "".join(f"peer {k} 127.0.0.1:{port}\n" for k, port in enumerate(ports)))
+    words = ["node", "a.layers", "a.plan", "--turns=9", "--me", "0,2"]
+    with socket.socket(socket.AF_INET, socket.SOCK_DGRAM) as other:
+        other.bind(("127.0.0.1", ports[2]))
+        made.compare("a place that is taken", made.run(words), (6, "", "link fault\n"))
+        made.compare("what is said of it", told(made, words), f"stackc: member 2 can't listen at 127.0.0.1:{ports[2]}: Address already in use\n")
+    made.compare("what is said of a free one", told(made, words), "stackc: a member of `--me 0,2` couldn't listen at its address, or more than 0 receives failed (`--patience`)\n")
+
+
+def told(made, words):
+    """What a terminal is told after `link fault`."""
+    made.put("said", "link fault\n")
+    refusal = [sys.executable, "-B", os.path.join(TOP, "tools", "refusal.py"), "tell", "6", "said", *words]
+    return subprocess.run(refusal, cwd=made.folder, stderr=subprocess.PIPE, check=True).stderr.decode()
+
+
+def stopped(made):
+    """A node without patience that is stopped and goes on, again and again: none of its receives fails."""
+    port, = free_ports(1)
+    made.put("a.plan", f"group 1 stamp 7 members 1\npeer 0 127.0.0.1:{port}\n")
+    words = [PROGRAM, "node", "a.layers", "a.plan", "--turns", "400", "--me", "0"]
+    with subprocess.Popen(words, cwd=made.folder, stdin=subprocess.DEVNULL, stdout=subprocess.PIPE, stderr=subprocess.PIPE) as node:
+        for _ in range(20):
+            node.send_signal(signal.SIGSTOP)
+            time.sleep(0.01)
+            node.send_signal(signal.SIGCONT)
+            time.sleep(0.01)
+        journal, said = node.communicate(timeout=60)
+        made.compare("a node that is stopped and goes on", (node.returncode, journal.decode().splitlines()[-1:], said), (0, ["end 400"], b""))
+
+
 def main():
     with runs("nodes") as made:
         made.put("a.layers", LAYERS)
@@ -58,6 +99,8 @@ def main():
             whole_group(made, mode)
         made.compare("a member of none", made.run(["node", "a.layers", "a.plan", "--turns=2", "--me=1,3", "--run=layered", "--patience=0"]), (3, "", "script: member 1\n"))
         to_a_stranger(made)
+        taken_place(made)
+        stopped(made)
 
 
 if __name__ == "__main__":
