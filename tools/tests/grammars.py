@@ -3,7 +3,7 @@
 
 Layer files are the examples, the library's layers and a text with each word, symbol and bad token; scripts and plans the examples and a text with each form;
 reports those that the program in $STACKC writes of the examples, and a text with each form. TextMate grammars are run by the few lines below, Vim's by
-Vim, where it is there.
+Vim, where it is there. The list of grammars for VS Code is as they are, and Vim's list of errors has the place of a refusal.
 """
 import json
 import os
@@ -110,6 +110,48 @@ def vim_classes(texts):
             found = file.read().split("\n=\n")
     for part in found[:len(texts)]:
         yield [[GROUPS.get(re.sub("^[a-z]+", "", group.rstrip(".")), group) for group in row.split()] for row in part.split("\n")]
+
+
+def manifest():
+    """What editors/package.json has otherwise than the grammars that stand beside it, or than Vim's list of file names."""
+    folder, wrong = os.path.join(TOP, "editors"), []
+    with open(os.path.join(folder, "package.json"), encoding="utf-8") as file:
+        its = json.load(file)["contributes"]
+    with open(os.path.join(folder, "vim", "ftdetect", "stackc.vim"), encoding="utf-8") as file:
+        names = {words.split()[-1]: sorted(re.findall(r"\*(\.\w+)", words)) for words in file if words.startswith("autocmd")}
+    endings = {language["id"]: sorted(language["extensions"]) for language in its["languages"]}
+    if endings != names:
+        wrong.append(f"package.json has {endings}, and Vim {names}")
+    for grammar in its["grammars"]:
+        with open(os.path.join(folder, grammar["path"]), encoding="utf-8") as file:
+            own = json.load(file)
+        if own["scopeName"] != grammar["scopeName"] or sorted(f".{ending}" for ending in own["fileTypes"]) != endings[grammar["language"]]:
+            wrong.append(f"package.json isn't as {grammar['path']}")
+    return wrong + [f"{path} isn't there" for path in {language.get("configuration", ".") for language in its["languages"]} if not os.path.exists(os.path.join(folder, path))]
+
+
+QUICK = r"""
+set nocompatible
+let &runtimepath = $GRAMMARS . ',' . &runtimepath
+filetype plugin on
+execute 'edit ' . $TEXTS
+cgetexpr ['file: unexpected 2:3', 'a.layers:2:3: `}` is wanted: here', '  ?', '  ^', 'stackc: this build is not proved']
+let found = map(filter(getqflist(), 'v:val.valid'), '[fnamemodify(bufname(v:val.bufnr), ":t"), v:val.lnum, v:val.col, trim(v:val.text)]')
+call writefile([json_encode([&commentstring, &makeprg =~# 'refusal.py.* run .*stackc.* check %', found])], $CLASSES)
+qall!
+"""
+
+
+def quick():
+    """Whether Vim has comments of layer files, and takes the place of a refusal for an error."""
+    with tempfile.TemporaryDirectory() as folder:
+        program, out = os.path.join(folder, "run.vim"), os.path.join(folder, "found")
+        with open(program, "w", encoding="utf-8") as file:
+            file.write(QUICK)
+        env = {**os.environ, "GRAMMARS": os.path.join(TOP, "editors", "vim"), "TEXTS": os.path.join(folder, "a.layers"), "CLASSES": out}
+        subprocess.run(["vim", "-es", "-u", program], env=env, cwd=folder, stdin=subprocess.DEVNULL, stdout=subprocess.DEVNULL, check=False)
+        with open(out, encoding="utf-8") as file:
+            return json.load(file) == ["# %s", 1, [["a.layers", 2, 3, "`}` is wanted: here"]]]
 
 
 def layer_tokens(text):
@@ -284,6 +326,12 @@ def main():
     if shutil.which("vim"):
         vim = sum(compare("Vim", text, wanted, found) for (_, text, wanted), found in zip(every, vim_classes([(k, t) for k, t, _ in every])))
         differs += vim
+        if not quick():
+            differs += 1
+            print("Vim doesn't take the place of a refusal for an error")
+    for what in manifest():
+        differs += 1
+        print(what)
     print(f"grammars: {len(every)} texts, {sum(len(wanted) for _, _, wanted in every)} tokens, {differs} not of their class ({vim} in Vim)")
     sys.exit(differs != 0)
 
