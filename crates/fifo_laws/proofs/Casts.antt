@@ -1,5 +1,6 @@
 -- What ranks have cast, when more is sent; and how much members have delivered, when more is delivered.
-use Rattle.std.proofs.Common.{◌≡◌, ◌≢◌, ℕ, ◌+◌, ◌==◌, ◌<◌, ◌≤◌, Bool, true, false, List, [], ◌∷◌, ◌++◌, length, refl, sym}
+use Rattle.std.proofs.Common.{◌≡◌, ◌≢◌, ℕ, ◌+◌, ◌==◌, ◌<◌, ◌≤◌, Bool, true, false, List, [], ◌∷◌, ◌++◌, length, refl}
+use Rattle.std.proofs.Common.{sym}
 use Rattle.std.proofs.Common.{ap, subst, ◌∙◌, arith, Option, Some, None, count_by}
 use Rattle.std.specs.Prelude.{slice_get}
 use Rattle.std.specs.List.{AllByRecursion, filter_map}
@@ -20,7 +21,8 @@ pub casts_both : (packets more : List Packet) (peer : ℕ) →
 casts_both packets more peer = filter_map-append (cast_in peer) packets more
 
 -- what was cast stays the cast of its number
-pub cast_stays : (packets more : List Packet) (peer q : ℕ) (x : ℕ × Word) → slice_get (casts_of packets peer) q ≡ Some x →
+pub cast_stays : (packets more : List Packet) (peer q : ℕ) (x : ℕ × Word) → slice_get (casts_of packets peer) q ≡
+    Some x →
     slice_get (casts_of (packets ++ more) peer) q ≡ Some x
 cast_stays packets more peer q x h =
     subst (λ xs. slice_get xs q ≡ Some x) (sym (casts_both packets more peer))
@@ -46,7 +48,8 @@ not_cast p peer ne = rw (not_same p.sender peer ne) refl
 pub no_casts : (more : List Packet) (peer other : ℕ) → (other ≢ peer) → AllByRecursion (λ q. q.sender ≡ other) more →
     casts_of more peer ≡ []
 no_casts more peer other ne from = found_none (cast_in peer) more
-    (all_so (λ q. q.sender ≡ other) (λ q. cast_in peer q ≡ None) (λ q is. not_cast q peer (λ e. ne (sym is ∙ e))) more from)
+    (all_so (λ q. q.sender ≡ other) (λ q. cast_in peer q ≡ None) (λ q is. not_cast q peer (λ e. ne (sym is ∙ e))) more
+    from)
 
 pub send_no_cast : (p : Packet) (r peer : ℕ) → casts_of (record p { dest = Rank r } ∷ []) peer ≡ []
 send_no_cast p r peer = by (p.sender == peer) refl where
@@ -73,7 +76,8 @@ pub got_others : (entries more : List Entry) (id peer other : ℕ) → (other �
 got_others entries more id peer other ne of =
     let test : Entry → Bool = λ b. same_list of_each_peer b (delivery 0 id peer []) in
     let none : count_by test more ≡ 0 = count_none test more
-    (all_so (λ e. e.member ≡ other) (λ e. test e ≡ false) (λ e is. rw (not_same e.member id (λ x. ne (sym is ∙ x))) refl)
+    (all_so (λ e. e.member ≡ other) (λ e. test e ≡ false)
+    (λ e is. rw (not_same e.member id (λ x. ne (sym is ∙ x))) refl)
     more of) in
     count_both test entries more ∙ ap (λ n. got entries id peer + n) none ∙ omega arith
 

@@ -20,7 +20,8 @@ use Rattle.audit_mean.specs.Clash.{of_each_peer}
 use Rattle.layer_mean.specs.State.{State}
 use Rattle.packet_mean.specs.Received.{IsFor}
 use Rattle.packet_mean.specs.declared.here.Here.{Here}
-use Rattle.run_mean.specs.Member.{Entered, app_cast, app_send, app_leave, clock_tick, from_peer, Step, step_from, packet_to}
+use Rattle.run_mean.specs.Member.{Entered, app_cast, app_send, app_leave, clock_tick, from_peer, Step, step_from}
+use Rattle.run_mean.specs.Member.{packet_to}
 use Rattle.order_laws.specs.Deliveries.{AreTold, place_after}
 use Rattle.protocol_laws.specs.Protocol.{Leaves, Yields, here_at, Arrived, Arrives, IsOther, IsProved}
 use Rattle.protocol_laws.proofs.Lists.{get_last}
@@ -29,7 +30,8 @@ use Rattle.fifo_laws.specs.Steps.{holding, numbered, numbered_packet, after_give
 use Rattle.fifo_laws.specs.Steps.{after_send, sent_down}
 use Rattle.fifo_laws.specs.Protocol.{casts_of, IsCast, IsSentTo, delivery, got, HasCounted, fifo_protocol, FifoIsProved}
 use Rattle.fifo_laws.proofs.Steps.{steps_are}
-use Rattle.fifo_laws.proofs.Casts.{casts_both, cast_stays, sent_stays, no_casts, send_no_cast, casts_few, got_others, got_own}
+use Rattle.fifo_laws.proofs.Casts.{casts_both, cast_stays, sent_stays, no_casts, send_no_cast, casts_few, got_others}
+use Rattle.fifo_laws.proofs.Casts.{got_own}
 use Rattle.fifo_laws.proofs.Casts.{got_peer}
 
 module _ (v : View) where

@@ -37,7 +37,8 @@ is_typed = (
 )
 
 pub keeps : (s : Script) → IsFair s → length s.events < 2 ^ 32 →
-    Keeps (fifo_protocol (first_view s.members)) (all_sent stack s) (report_said stack (run_of stack (plans_of stack) s))
+    Keeps (fifo_protocol (first_view s.members)) (all_sent stack s)
+    (report_said stack (run_of stack (plans_of stack) s))
 keeps s fair few =
     protocols_keep stack (fifo_protocol (first_view s.members)) s is_typed fair few (fifo_is_proved s.members)
 

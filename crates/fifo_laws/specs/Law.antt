@@ -32,8 +32,8 @@ SenderHolds = (s : Script) → IsFair s → length s.events < 2 ^ 32 → breache
 abbrev pub delivered : (member peer : ℕ) → List Entry → List Entry
 delivered member peer entries = list_of of_each_peer (delivery 0 member peer []) entries
 
--- What a member delivers of a peer are the first so many of the peer's casts, in the order in which they were cast: none
--- is left out, and none comes twice.
+-- What a member delivers of a peer are the first so many of the peer's casts, in the order in which they were cast:
+-- none is left out, and none comes twice.
 abbrev pub DeliversFirst : Type 0
 DeliversFirst = (s : Script) (member peer : ℕ) → IsFair s → length s.events < 2 ^ 32 →
     map told (delivered member peer (entries_of (said s))) ≡

@@ -1,5 +1,5 @@
--- The layer `fifo` of the tutorial, as a text and as the tree that the text means: it numbers casts, delivers the one that
--- is due from each peer, and drops every other.
+-- The layer `fifo` of the tutorial, as a text and as the tree that the text means: it numbers casts, delivers the one
+-- that is due from each peer, and drops every other.
 use Rattle.std.specs.Prelude.{◌≡◌, ℕ, List, [], ◌∷◌, ◌++◌, codes}
 use Rattle.layer_words.specs.declared.events.Dir.TheVariants.{Up, Down}
 use Rattle.layer_words.specs.declared.events.Kind.TheVariants.{Cast}

@@ -1,6 +1,7 @@
 -- What the layer does in any state, as equations: a visit by a cast going down, one by a cast that comes up, and each
 -- step of a member whose stack is this layer.
-use Rattle.std.specs.Prelude.{◌≡◌, ℕ, ◌+◌, ◌==◌, ◌%◌, ◌^◌, ◌&&◌, not, nat_lt, Bool, true, false, List, [], ◌∷◌, Some, None}
+use Rattle.std.specs.Prelude.{◌≡◌, ℕ, ◌+◌, ◌==◌, ◌%◌, ◌^◌, ◌&&◌, not, nat_lt, Bool, true, false, List, [], ◌∷◌, Some}
+use Rattle.std.specs.Prelude.{None}
 use Rattle.std.specs.Prelude.{slice_set, slice_index}
 use Rattle.msg_core.specs.Chain.{Content, plain, pushed, popped, first_of}
 use Rattle.msg_core.specs.View.{member_count}
@@ -86,7 +87,8 @@ numbered_packet there sender q body = record {
 
 abbrev pub after_given : (p : Packet) (me n ltime k : ℕ) (e : List ℕ) (q : ℕ) (body : List ℕ) → Bool → Step
 after_given p me n ltime k e q body true =
-    went (from_peer p) (holding me n ltime k (slice_set e p.sender ((q + 1) % 2 ^ 32))) (deliver_cast p.sender body ∷ [])
+    went (from_peer p) (holding me n ltime k (slice_set e p.sender ((q + 1) % 2 ^ 32)))
+    (deliver_cast p.sender body ∷ [])
     ((Up, cast p.sender (plain body)) ∷ []) (usual ∷ [])
 after_given p me n ltime k e q body false =
     went (from_peer p) (holding me n ltime k e) [] [] (unusual ∷ [])

@@ -1,5 +1,5 @@
-//! A protocol that is proved: the layer `fifo` of the tutorial delivers the casts of each peer in the order in which they
-//! were cast, in every script. Each law is the contract of a function that does nothing.
+//! A protocol that is proved: the layer `fifo` of the tutorial delivers the casts of each peer in the order in which
+//! they were cast, in every script. Each law is the contract of a function that does nothing.
 #![tactic(auto)]
 
 ghost use Rattle.fifo_laws.specs.Layer.{TextMeans};

@@ -28,4 +28,5 @@ deliveries_from n lines = filter_map first_entry (enumerate_from n lines)
 
 -- The deliveries of calm lines are these.
 abbrev pub CalmDeliveries : Type 0
-CalmDeliveries = (lines : List ReportLine) → AreCalm lines → entries_of (enumerate_from 1 lines) ≡ deliveries_from 1 lines
+CalmDeliveries = (lines : List ReportLine) → AreCalm lines → entries_of (enumerate_from 1 lines) ≡
+    deliveries_from 1 lines

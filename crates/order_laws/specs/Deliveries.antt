@@ -1,5 +1,5 @@
--- A criterion for the laws `sender` and `total`: there is one table that tells, for each list and each place, what every
--- member delivers there.
+-- A criterion for the laws `sender` and `total`: there is one table that tells, for each list and each place, what
+-- every member delivers there.
 use Rattle.std.specs.Prelude.{◌≡◌, ℕ, List, [], ◌∷◌, ◌++◌, map, filter, length, take, count_by, slice_get, Option, Some}
 use Rattle.script_mean.specs.Words.{Word}
 use Rattle.audit_mean.specs.Segment.{Name, Entry}

@@ -1,5 +1,5 @@
--- What the lines of a report say, as far as the group's laws look at them: the lines of an output, a step, a moment and a
--- run, each beside the definition of the lines themselves.
+-- What the lines of a report say, as far as the group's laws look at them: the lines of an output, a step, a moment and
+-- a run, each beside the definition of the lines themselves.
 use Rattle.std.specs.Prelude.{ℕ, List, [], ◌∷◌, ◌++◌, map, option_to_list}
 use Rattle.std.specs.List.{flat_map}
 use Rattle.script_mean.specs.EventText.{hex_text}

@@ -1,5 +1,6 @@
 -- A protocol that is proved step by step keeps its order in every run.
-use Rattle.std.proofs.Common.{◌≡◌, ◌≢◌, ℕ, zero, suc, ◌+◌, ◌<◌, ◌≤◌, ◌^◌, List, [], ◌∷◌, ◌++◌, map, length, refl, sym, ap}
+use Rattle.std.proofs.Common.{◌≡◌, ◌≢◌, ℕ, zero, suc, ◌+◌, ◌<◌, ◌≤◌, ◌^◌, List, [], ◌∷◌, ◌++◌, map, length, refl, sym}
+use Rattle.std.proofs.Common.{ap}
 use Rattle.std.proofs.Common.{subst, ◌∙◌, arith, Option, Some, None}
 use Rattle.std.specs.Prelude.{slice_get, slice_set, slice_index_or, option_to_list}
 use Rattle.std.specs.List.{AllByRecursion, enumerate_from, filter_map, flat_map, range_with_len}
@@ -18,7 +19,8 @@ use Rattle.layer_mean.specs.Visit.{fresh}
 use Rattle.packet_mean.specs.Received.{IsFor}
 use Rattle.packet_mean.specs.declared.here.Here.{Here}
 use Rattle.stack_mean.specs.Plans.{plans_of}
-use Rattle.run_mean.specs.Member.{Member, inside, out, opened_member, Entered, app_cast, app_send, app_leave, clock_tick}
+use Rattle.run_mean.specs.Member.{Member, inside, out, opened_member, Entered, app_cast, app_send, app_leave}
+use Rattle.run_mean.specs.Member.{clock_tick}
 use Rattle.run_mean.specs.Member.{from_peer, Step, step_from, packet_in, member_following}
 use Rattle.run_mean.specs.World.{World, member_at, here_of, world_after, first_world}
 use Rattle.run_mean.specs.Report.{run_of}
@@ -28,7 +30,8 @@ use Rattle.order_laws.specs.Calm.{AreCalm, deliveries_from}
 use Rattle.order_laws.proofs.Told.{told_keep, told_both, told_more}
 use Rattle.order_laws.proofs.Calm.{calm_both, deliveries_both, calm_deliveries}
 use Rattle.protocol_laws.specs.Runs.{IsOneOf, Comes, IsKept, IsFair, all_sent}
-use Rattle.protocol_laws.specs.Protocol.{Protocol, IsIn, IsMember, Stands, sent_in, delivered_in, Leaves, Yields, here_at}
+use Rattle.protocol_laws.specs.Protocol.{Protocol, IsIn, IsMember, Stands, sent_in, delivered_in, Leaves, Yields}
+use Rattle.protocol_laws.specs.Protocol.{here_at}
 use Rattle.protocol_laws.specs.Protocol.{Arrived, Arrives, IsOther, IsProved, Keeps, ProtocolsKeep}
 use Rattle.protocol_laws.proofs.Lists.{get_both, set_all, one_rank}
 use Rattle.protocol_laws.proofs.Runs.{runs_keep}
@@ -114,7 +117,11 @@ module _ (stack : List LayerTree) (v : View) (p : Protocol) (proved : IsProved s
       (lines : List ReportLine) (o : Option Member) →
       o ≡ None → Stood left (grown w id states more) (past ++ lines) →
       Stood left
-      (record w { members = slice_set w.members id (option_map_or (λ m. m) o (inside v states)); packets = w.packets ++ more })
+      (record w {
+        members = slice_set w.members id (option_map_or (λ m. m) o (inside v states));
+        packets = w.packets ++
+            more;
+      })
       (past ++ (lines ++ map (installed_said id) (option_to_list o)))
   installs_none left w past id states more lines None is h =
       subst (λ ls. Stood left (grown w id states more) (past ++ ls)) (sym (append-nil lines)) h

@@ -1,5 +1,6 @@
 -- What each step of a member keeps holds along every run.
-use Rattle.std.proofs.Common.{◌≡◌, ℕ, zero, suc, ◌+◌, Bool, true, false, List, [], ◌∷◌, ◌++◌, map, length, refl, sym, ap}
+use Rattle.std.proofs.Common.{◌≡◌, ℕ, zero, suc, ◌+◌, Bool, true, false, List, [], ◌∷◌, ◌++◌, map, length, refl, sym}
+use Rattle.std.proofs.Common.{ap}
 use Rattle.std.proofs.Common.{subst, ◌∙◌, append_assoc, Option, Some, None, Result, Ok, Err}
 use Rattle.std.specs.Prelude.{nat_lt, slice_get, if◌then◌else◌}
 use Rattle.std.specs.List.{AllByRecursion, flat_map}
@@ -26,7 +27,8 @@ use Rattle.stack_mean.specs.Plans.{plans_of}
 use Rattle.run_mean.specs.Member.{Member, inside, out, Input, cast, send, leave, tick, datagram, Refusal, too_big}
 use Rattle.run_mean.specs.Member.{Entered, app_cast, app_send, app_leave, clock_tick, from_peer, from_datagram}
 use Rattle.run_mean.specs.Member.{entered_input}
-use Rattle.run_mean.specs.World.{World, Happening, member_at, packet_number, happens, here_of, stepped_of, stepped_inside}
+use Rattle.run_mean.specs.World.{World, Happening, member_at, packet_number, happens, here_of, stepped_of}
+use Rattle.run_mean.specs.World.{stepped_inside}
 use Rattle.run_mean.specs.World.{given_packet, first_world}
 use Rattle.run_mean.specs.Report.{Moment, moments, member_lines}
 use Rattle.chain_laws.specs.Runs.{TypedStack}
@@ -35,7 +37,8 @@ use Rattle.member_laws.specs.Members.{IsGivenEvent, IsChainedWorld}
 use Rattle.member_laws.proofs.Members.{events_keep_chains, first_world_is_chained, numbered}
 use Rattle.member_laws.proofs.Numbered.{plans_are_numbered}
 use Rattle.order_laws.specs.Said.{did_said, moment_said}
-use Rattle.protocol_laws.specs.Runs.{IsOneOf, Comes, Property, IsKept, IsUnforged, IsFair, last_world, RunsKeep, RawIsGiven}
+use Rattle.protocol_laws.specs.Runs.{IsOneOf, Comes, Property, IsKept, IsUnforged, IsFair, last_world, RunsKeep}
+use Rattle.protocol_laws.specs.Runs.{RawIsGiven}
 use Rattle.protocol_laws.specs.Runs.{Passes, TestsKeep}
 use Rattle.protocol_laws.proofs.Meant.{meant_is_for}
 
@@ -136,7 +139,8 @@ module _ (stack : List LayerTree) (plans : List Plan) (P : Property) (keeps : Is
   run_ends : TypedStack stack → AreNumbered plans → (w : World) (events : List ScriptEvent) (past : List ReportLine) →
       AllByRecursion IsGivenEvent events → AllByRecursion IsUnforged events → IsChainedWorld stack w →
       P (length events) w past →
-      P 0 (last_world w (moments stack plans w events)) (past ++ flat_map (moment_said stack) (moments stack plans w events))
+      P 0 (last_world w (moments stack plans w events))
+      (past ++ flat_map (moment_said stack) (moments stack plans w events))
   run_ends typed are w [] past given fair world h = subst (P 0 w) (sym (append-nil past)) h
   run_ends typed are w (e ∷ events) past given fair world h =
       let g = happens stack plans w e in
@@ -145,7 +149,7 @@ module _ (stack : List LayerTree) (plans : List Plan) (P : Property) (keeps : Is
       let later = moments stack plans g.world events in
       let next = event_keeps (length events) past w e g refl fair.0 world h in
       let rest = run_ends typed are g.world events (past ++ here) given.1 fair.1
-          (events_keep_chains stack plans w e typed are given.0 world) next in
+      (events_keep_chains stack plans w e typed are given.0 world) next in
       subst (P 0 (last_world g.world later))
       (append_assoc past here (flat_map (moment_said stack) later)
       ∙ ap (λ lines. past ++ lines) (sym (flat_map-cons (moment_said stack) m later)))

@@ -1,6 +1,7 @@
 -- What any step sends and delivers: its packets are from the member's rank, its deliveries the member's, and no output
 -- tells of a view.
-use Rattle.std.proofs.Common.{◌≡◌, ℕ, ◌+◌, ◌==◌, ◌&&◌, not, Bool, true, false, List, [], ◌∷◌, ◌++◌, map, length, refl, sym, ap}
+use Rattle.std.proofs.Common.{◌≡◌, ℕ, ◌+◌, ◌==◌, ◌&&◌, not, Bool, true, false, List, [], ◌∷◌, ◌++◌, map, length, refl}
+use Rattle.std.proofs.Common.{sym, ap}
 use Rattle.std.proofs.Common.{subst, Option, Some, None}
 use Rattle.std.specs.Prelude.{nat_lt, if◌then◌else◌}
 use Rattle.std.specs.List.{AllByRecursion, filter_map, flat_map, enumerate_from, cons_option}
@@ -39,7 +40,8 @@ from_above r _ e = tt
 from_below : (here : Here) (k : Kind) (e : Event) → Where (IsFrom here.rank) (packet_in (below here k e))
 from_below here kind.Cast e = refl
 from_below here kind.Send e = by (nat_lt e.peer (member_count here.view) && not (e.peer == here.rank)) where
-  by : (b : Bool) → Where (IsFrom here.rank) (packet_in (if b then packet (packet_to here (Rank e.peer) e) else nowhere))
+  by : (b : Bool) → Where (IsFrom here.rank)
+      (packet_in (if b then packet (packet_to here (Rank e.peer) e) else nowhere))
   by true = refl
   by false = tt
 from_below here kind.Timer e = tt

@@ -1,6 +1,7 @@
 -- How a protocol is proved whose members stay in one view: what is so of each member, of each packet and of the
 -- deliveries, and that one step of one member keeps it.
-use Rattle.std.specs.Prelude.{◌≡◌, ◌≢◌, ℕ, ◌+◌, ◌<◌, ◌≤◌, ◌^◌, List, [], ◌∷◌, ◌++◌, length, map, slice_get, Option, Some, None}
+use Rattle.std.specs.Prelude.{◌≡◌, ◌≢◌, ℕ, ◌+◌, ◌<◌, ◌≤◌, ◌^◌, List, [], ◌∷◌, ◌++◌, length, map, slice_get, Option}
+use Rattle.std.specs.Prelude.{Some, None}
 use Rattle.std.specs.List.{AllByRecursion, enumerate_from, filter_map, flat_map}
 use Rattle.msg_core.specs.View.{rank, member_count, first_view}
 use Rattle.msg_core.specs.declared.packet.Packet.{Packet}
@@ -24,9 +25,9 @@ use Rattle.order_laws.specs.Said.{output_said, report_said}
 use Rattle.order_laws.specs.Calm.{deliveries_from}
 use Rattle.protocol_laws.specs.Runs.{IsOneOf, IsFair, all_sent}
 
--- What a proof says of a protocol. `IsAt`: what is so of the states of a member, by its id and its rank, given all packets
--- that were sent and all deliveries so far. `IsSent`: what is so of each packet. `lists`, `table`: what members deliver, and
--- at which place.
+-- What a proof says of a protocol. `IsAt`: what is so of the states of a member, by its id and its rank, given all
+-- packets that were sent and all deliveries so far. `IsSent`: what is so of each packet. `lists`, `table`: what members
+-- deliver, and at which place.
 pub record Protocol : Type 1 where
   pub IsAt : List Packet → List Entry → (id me : ℕ) → List State → Type 0
   pub IsSent : List Packet → Packet → Type 0
@@ -45,8 +46,8 @@ abbrev pub IsMember : Protocol → View → List Packet → List Entry → ℕ �
 IsMember p v packets entries id (inside view states) = IsIn p v packets entries id view states
 IsMember p v packets entries id out = Unit {0}
 
--- A protocol stands in a world after these deliveries: each member, each packet and each delivery is as it says, and fewer
--- than 2^32 packets can be sent by the end.
+-- A protocol stands in a world after these deliveries: each member, each packet and each delivery is as it says, and
+-- fewer than 2^32 packets can be sent by the end.
 pub record Stands (p : Protocol) (v : View) (left : ℕ) (w : World) (entries : List Entry) : Type 0 where
   pub members : (id : ℕ) → IsMember p v w.packets entries id (member_at w id)
   pub packets : (place : ℕ) (q : Packet) → slice_get w.packets place ≡ Some q → p.IsSent w.packets q

@@ -68,8 +68,8 @@ abbrev pub all_sent : List LayerTree → Script → List Packet
 all_sent stack s =
     (last_world (first_world stack s.group s.stamp s.members) (run_of stack (plans_of stack) s)).packets
 
--- What holds at first and is kept holds at the end of the run of every fair script. It is a lemma, `runs_keep` of `proofs/`,
--- since no contract speaks of all predicates.
+-- What holds at first and is kept holds at the end of the run of every fair script. It is a lemma, `runs_keep` of
+-- `proofs/`, since no contract speaks of all predicates.
 abbrev pub RunsKeep : Type 1
 RunsKeep = (stack : List LayerTree) (P : Property) (s : Script) → TypedStack stack → IsKept stack P → IsFair s →
     P (length s.events) (first_world stack s.group s.stamp s.members) [] →
@@ -89,8 +89,8 @@ TestsKeep = (stack : List LayerTree) (test : Test) (s : Script) → TypedStack s
     Passes test 0 (last_world (first_world stack s.group s.stamp s.members) (run_of stack (plans_of stack) s))
     (flat_map (moment_said stack) (run_of stack (plans_of stack) s))
 
--- A raw datagram that spells a packet which was sent, in full or short, is as good as this packet's `give`: so what holds
--- of scripts without raw datagrams holds of those whose raw datagrams all spell what was sent.
+-- A raw datagram that spells a packet which was sent, in full or short, is as good as this packet's `give`: so what
+-- holds of scripts without raw datagrams holds of those whose raw datagrams all spell what was sent.
 abbrev pub RawIsGiven : Type 0
 RawIsGiven = (stack : List LayerTree) (plans : List Plan) (w : World) (id k : ℕ) (bytes : List ℕ) (p : Packet) →
     packet_number w k ≡ Some p → SpellsPacket stack plans bytes p →
