@@ -50,11 +50,12 @@ def told(path, text, found):
 
 
 def words_told(table, words):
-    """Why words are no job, and how the job is written or, where none is named, which there are."""
+    """Why words are refused, and how the job is written or, where none is named, which there are."""
     fault = table.fault(words)
     named = [job for job in table.jobs.values() if job.name in words[:1]]
     usage = "\n".join(f"    {job.usage()}" for job in named or table.jobs.values())
-    return f"stackc: {clean(fault) if fault else 'these words are no job'}\n{usage}\n    stackc --help says what the words mean\n"
+    said = clean(fault) if fault else "these words are no job" if table.program == "stackc" else "these words are refused"
+    return f"{table.program}: {said}\n{usage}\n    {table.program} --help says what the words mean\n"
 
 
 def fault_told(path):
@@ -158,9 +159,9 @@ def refused(table, said, words):
     return told(places[name], text, found) if found else ""
 
 
-def meaning(status, said, words):
+def meaning(status, said, words, program="stackc"):
     """What is added after the line that a program said when it ended with a status."""
-    table = Table()
+    table = Table(program)
     if status == 2 and said == "words: refused":
         return words_told(table, words)
     try:

@@ -1,8 +1,13 @@
-"""The jobs of stackc as the table jobs.tsv has them, and why words are no job."""
+"""The words of the programs as the tables jobs.tsv and programs.tsv have them, and why words are refused."""
 import difflib
 import os
 
 HERE = os.path.dirname(os.path.abspath(__file__))
+
+
+# What is no job of stackc, and which program does it.
+OTHERS = {word: f"; `{program}` is a program of its own" for word, program in (("fmt", "layerfmt"), ("format", "layerfmt"), ("chart", "runchart"), ("draw", "runchart"), ("hunt", "stackhunt"))}
+OTHERS |= {program: "; it is a program of its own" for program in ("layerfmt", "runchart", "stackhunt")}
 
 
 class NoJob(Exception):
@@ -10,11 +15,12 @@ class NoJob(Exception):
 
 
 class Job:
-    """A job: the words at its places, its options with the words for their values, those of them that it needs, and those that it doesn't take together."""
+    """A job, or a program that has one alone: the words at its places, its options with the words for their values, those of them that it needs, those that it
+    doesn't take together, and those whose numbers don't fall."""
 
-    def __init__(self, name, form, says):
-        self.name, self.form, self.says = name, form, says
-        self.places, self.options, self.needed, self.apart = [], {}, [], []
+    def __init__(self, program, name, form, says):
+        self.program, self.name, self.form, self.says = program, name, form, says
+        self.places, self.options, self.needed, self.apart, self.ascend = [], {}, [], [], []
         words = form.split()
         while words:
             word = words.pop(0)
@@ -27,44 +33,70 @@ class Job:
                 self.needed.append(option)
 
     def usage(self):
-        return f"stackc {self.name} {self.form}"
+        return " ".join(filter(None, (self.program, self.name, self.form)))
+
+
+def rows_of(program):
+    """The rows of a program's table."""
+    its = program == "stackc"
+    with open(os.path.join(HERE, "jobs.tsv" if its else "programs.tsv"), encoding="utf-8") as file:
+        for line in file:
+            if line.startswith("#"):
+                continue
+            what, name, form, says = line.rstrip("\n").split("\t")
+            if what == "program":
+                its = name == program
+            if its:
+                yield what, name, form, says
 
 
 class Table:
-    """The jobs by name, the words by name with their forms and what they are, and the statuses."""
+    """Of a program: its jobs by name, or the one that it is, without a name; the words by name with their forms and what they are; notes; and the statuses."""
 
-    def __init__(self):
-        self.jobs, self.words, self.statuses = {}, {}, []
-        with open(os.path.join(HERE, "jobs.tsv"), encoding="utf-8") as file:
-            for line in file:
-                if line.startswith("#"):
-                    continue
-                what, name, form, says = line.rstrip("\n").split("\t")
-                if what == "job":
-                    self.jobs[name] = Job(name, form, says)
-                elif what == "apart":
-                    self.jobs[name].apart.append((*form.split(), says))
-                elif what == "word":
-                    self.words[name] = (form.split(), says)
-                else:
-                    self.statuses.append((name, form, says))
+    def __init__(self, program="stackc"):
+        self.program, self.jobs, self.words, self.notes, self.statuses = program, {}, {}, [], []
+        for what, name, form, says in rows_of(program):
+            if what == "job":
+                self.jobs[name] = Job(program, name, form, says)
+            elif what == "program":
+                self.jobs[""] = Job(program, "", form, says)
+            elif what == "apart":
+                self.jobs[name].apart.append((*form.split(), says))
+            elif what == "ascend":
+                self.jobs[""].ascend.append((name, form, says))
+            elif what == "word":
+                self.words[name] = (form.split(), says)
+            elif what == "note":
+                self.notes.append(says)
+            else:
+                self.statuses.append((name, form, says))
 
-    def options(self):
-        """All options of any job, each with the word for its value."""
-        return {option: value for job in self.jobs.values() for option, value in job.options.items()}
+    def options(self, own=None):
+        """All options of any job, each with the word for its value; where jobs differ, as one of them has it."""
+        options = {option: value for job in self.jobs.values() for option, value in job.options.items()}
+        return {**options, **own.options} if own else options
+
+    def named(self, words):
+        """The job that the first word names which is one's name; None where there is none."""
+        return next((self.jobs[word] for word in words if word in self.jobs), None)
+
+    def job_of(self, places):
+        """The job, and the words at its places."""
+        if "" in self.jobs:
+            return self.jobs[""], places
+        if not places:
+            raise NoJob("no job is named")
+        if places[0] not in self.jobs:
+            raise NoJob(f"`{places[0]}` is no job" + (OTHERS.get(places[0]) or nearest(places[0], self.jobs)))
+        return self.jobs[places[0]], places[1:]
 
     def read(self, words):
         """The job of words with the words at its places and its options; raises NoJob where they are none."""
-        places, given = cut(words, self.options())
-        if not places:
-            raise NoJob("no job is named")
-        job = self.jobs.get(places[0])
-        if job is None:
-            raise NoJob(f"`{places[0]}` is no job" + nearest(places[0], self.jobs))
+        places, given = cut(words, self.options(self.named(words)))
+        job, places = self.job_of(places)
         for option in given:
             if option not in job.options:
                 raise NoJob(f"`{job.name}` has no `{option}`")
-        places = places[1:]
         if len(places) > len(job.places):
             raise NoJob(f"`{places[len(job.places)]}` is a word too many")
         if len(places) < len(job.places):
@@ -80,6 +112,9 @@ class Table:
             name, _, value = other.partition("=")
             if option in given and given.get(name) == value:
                 raise NoJob(f"`{option}` doesn't go with `{name} {value}`: {says}")
+        for low, high, says in job.ascend:
+            if low in given and high in given and int(given[low]) > int(given[high]):
+                raise NoJob(f"`{low} {given[low]}` is over `{high} {given[high]}`: {says}")
         return job, dict(zip(job.places, places)), given
 
     def fault(self, words):

@@ -1,62 +1,76 @@
-# Completions of stackc for bash, made by tools/make.py from tools/jobs.tsv. To have them: source tools/completions/stackc.bash
+# Completions of stackc, layerfmt, runchart and stackhunt for bash, made by tools/make.py from tools/jobs.tsv and tools/programs.tsv.
+# To have them: source tools/completions/stackc.bash
 
 _stackc_files() {
-  local names
-  mapfile -t names < <(compgen -f -X "!*.$1" -- "$2"; compgen -d -- "$2")
-  [ "${#names[@]}" -gt 0 ] || mapfile -t names < <(compgen -f -- "$2")
+  local current=$1 names=() ending
+  shift
+  for ending; do mapfile -t -O "${#names[@]}" names < <(compgen -f -X "!*.$ending" -- "$current"); done
+  mapfile -t -O "${#names[@]}" names < <(compgen -d -- "$current")
+  [ "${#names[@]}" -gt 0 ] || mapfile -t names < <(compgen -f -- "$current")
   COMPREPLY=("${names[@]}")
   compopt -o filenames 2>/dev/null || true
 }
 
 _stackc() {
-  local current=${COMP_WORDS[COMP_CWORD]} before="" job="" options="" kinds="" place=0 at=1 word
+  local current=${COMP_WORDS[COMP_CWORD]} before="" name=${COMP_WORDS[0]##*/} options="" valued="" kinds="" place=0 at=1 word
   COMPREPLY=()
   [ "$COMP_CWORD" -eq 0 ] || before=${COMP_WORDS[COMP_CWORD - 1]}
   # Readline cuts `--run=layered` into three words.
   if [ "$current" = "=" ]; then current=""; elif [ "$before" = "=" ]; then before=${COMP_WORDS[COMP_CWORD - 2]}; fi
   [ "${COMP_WORDS[1]-}" != --trial ] || [ "$COMP_CWORD" -eq 1 ] || at=2
-  if [ "$COMP_CWORD" -eq "$at" ]; then
-    word="check synth pack replay explain load node audit"
+  if [ "$COMP_CWORD" -eq "$at" ] && { [ "$name" = stackc ] || [[ $current == --* ]]; }; then
+    word=""
+    [ "$name" != stackc ] || word="check synth pack replay explain load node audit"
     [ "$at" -eq 2 ] || word="$word --help --version --prove --trial"
     mapfile -t COMPREPLY < <(compgen -W "$word" -- "$current")
-    return
+    [ "$name" != stackc ] || return
   fi
-  job=${COMP_WORDS[at]}
-  case $job in
-  check) options="" kinds="layers" ;;
-  synth) options="" kinds="layers" ;;
-  pack) options="" kinds="layers" ;;
-  replay) options="--run --with --wire --count" kinds="layers script" ;;
-  explain) options="" kinds="layers script" ;;
-  load) options="--seed --events --members --run --raw" kinds="layers" ;;
-  node) options="--turns --me --run --patience" kinds="layers plan" ;;
-  audit) options="--law" kinds="report" ;;
+  [ "$name" != stackc ] || { name="stackc ${COMP_WORDS[at]}"; at=$((at + 1)); }
+  case $name in
+  'stackc check') options="" valued="" kinds="layers" ;;
+  'stackc synth') options="" valued="" kinds="layers" ;;
+  'stackc pack') options="" valued="" kinds="layers" ;;
+  'stackc replay') options="--run --with --wire --count" valued="--run --with" kinds="layers script" ;;
+  'stackc explain') options="" valued="" kinds="layers script" ;;
+  'stackc load') options="--seed --events --members --run --raw" valued="--seed --events --members --run" kinds="layers" ;;
+  'stackc node') options="--turns --me --run --patience" valued="--turns --me --run --patience" kinds="layers plan" ;;
+  'stackc audit') options="--law" valued="--law" kinds="report,journal" ;;
+  'layerfmt') options="" valued="" kinds="layers" ;;
+  'runchart') options="--from --to" valued="--from --to" kinds="report,journal" ;;
+  'stackhunt') options="--law --members --events --runs --seed --seconds" valued="--law --members --events --runs --seed --seconds" kinds="layers" ;;
   *) return ;;
   esac
-  case $before in
-  --run) mapfile -t COMPREPLY < <(compgen -W "bypass layered" -- "$current"); return ;;
-  --law) mapfile -t COMPREPLY < <(compgen -W "sender total same" -- "$current"); return ;;
-  --with) _stackc_files bypasses "$current"; return ;;
-  --seed | --events | --members | --turns | --me | --patience) return ;;
-  esac
-  if [[ $current == -* ]]; then
-    mapfile -t COMPREPLY < <(compgen -W "$options" -- "$current")
+  if [[ " $valued " == *" $before "* ]]; then
+    case $name$before in
+    'stackc replay--run') mapfile -t COMPREPLY < <(compgen -W "bypass layered" -- "$current") ;;
+    'stackc replay--with') _stackc_files "$current" bypasses ;;
+    'stackc load--run') mapfile -t COMPREPLY < <(compgen -W "bypass layered" -- "$current") ;;
+    'stackc node--run') mapfile -t COMPREPLY < <(compgen -W "bypass layered" -- "$current") ;;
+    'stackc audit--law') mapfile -t COMPREPLY < <(compgen -W "sender total same" -- "$current") ;;
+    'stackhunt--law') mapfile -t COMPREPLY < <(compgen -W "sender total same" -- "$current") ;;
+    esac
     return
   fi
-  while [ $((at += 1)) -lt "$COMP_CWORD" ]; do
+  if [[ $current == -* ]]; then
+    mapfile -t -O "${#COMPREPLY[@]}" COMPREPLY < <(compgen -W "$options" -- "$current")
+    return
+  fi
+  while [ "$at" -lt "$COMP_CWORD" ]; do
     word=${COMP_WORDS[at]}
-    case $word in
-    --run | --with | --seed | --events | --members | --turns | --me | --patience | --law) at=$((at + 1)); [ "${COMP_WORDS[at]-}" != "=" ] || at=$((at + 1)) ;;
-    -*) ;;
-    *) place=$((place + 1)) ;;
-    esac
+    if [[ " $valued " == *" $word "* ]]; then
+      at=$((at + 1)); [ "${COMP_WORDS[at]-}" != "=" ] || at=$((at + 1))
+    elif [[ $word != -* ]]; then
+      place=$((place + 1))
+    fi
+    at=$((at + 1))
   done
   read -ra kinds <<<"$kinds"
   if [ "$place" -lt "${#kinds[@]}" ]; then
-    _stackc_files "${kinds[place]}" "$current"
+    # shellcheck disable=SC2086 # (endings with a comma between)
+    _stackc_files "$current" ${kinds[place]//,/ }
   else
     mapfile -t COMPREPLY < <(compgen -W "$options" -- "$current")
   fi
 }
 
-complete -F _stackc stackc ./stackc
+complete -F _stackc stackc ./stackc layerfmt ./layerfmt runchart ./runchart stackhunt ./stackhunt
