@@ -1,0 +1,5 @@
+pub mod Visits
+pub mod Steps
+pub mod Casts
+pub mod Kept
+pub mod Law

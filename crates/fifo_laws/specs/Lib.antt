@@ -1,0 +1,4 @@
+pub mod Layer
+pub mod Steps
+pub mod Protocol
+pub mod Law

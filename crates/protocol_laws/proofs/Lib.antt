@@ -1,0 +1,5 @@
+pub mod Lists
+pub mod Meant
+pub mod Runs
+pub mod Steps
+pub mod Protocols
