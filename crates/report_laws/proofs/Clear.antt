@@ -45,7 +45,8 @@ clear_joined byte f sep between each (x ∷ xs) = clear_both byte (f x) (flat_ma
     (clear_all byte (λ y. sep ++ f y) (λ y. clear_both byte sep (f y) between (each y)) xs)
 
 -- words that are clear, joined
-pub clear_flat : (byte : ℕ) (sep : List ℕ) → Clear byte sep → (words : List (List ℕ)) → AllByRecursion (Clear byte) words →
+pub clear_flat : (byte : ℕ) (sep : List ℕ) → Clear byte sep → (words : List (List ℕ)) →
+    AllByRecursion (Clear byte) words →
     Clear byte (flat_map (λ w. sep ++ w) words)
 clear_flat byte sep between [] all = tt
 clear_flat byte sep between (w ∷ words) all = clear_both byte (sep ++ w) (flat_map (λ x. sep ++ x) words)
@@ -59,7 +60,8 @@ glyph_clear byte d small = by (nat_lt d 10) where
   by true = differs (48 + d) byte (λ e. omega (arith, e, small))
   by false = differs (87 + d) byte (λ e. omega (arith, e, small))
 
-either_clear : (byte : ℕ) (b : Bool) (xs ys : List ℕ) → Clear byte xs → Clear byte ys → Clear byte (if b then xs else ys)
+either_clear : (byte : ℕ) (b : Bool) (xs ys : List ℕ) → Clear byte xs → Clear byte ys →
+    Clear byte (if b then xs else ys)
 either_clear byte true xs ys h more = h
 either_clear byte false xs ys h more = more
 
@@ -81,14 +83,13 @@ pub hex_clear : (byte : ℕ) → Clear byte lower_digits → (0 == byte) ≡ fal
     Clear byte (encode_with lower_digits bytes)
 unfolding encode_with
 hex_clear byte table beyond [] = tt
-hex_clear byte table beyond (b ∷ bytes) =
-    (
-      each_or (λ c. (c == byte) ≡ false) lower_digits (b / 16) 0 table beyond,
-      (
-        each_or (λ c. (c == byte) ≡ false) lower_digits (b % 16) 0 table beyond,
-        hex_clear byte table beyond bytes,
-      ),
-    )
+hex_clear byte table beyond (b ∷ bytes) = (
+  each_or (λ c. (c == byte) ≡ false) lower_digits (b / 16) 0 table beyond,
+  (
+    each_or (λ c. (c == byte) ≡ false) lower_digits (b % 16) 0 table beyond,
+    hex_clear byte table beyond bytes,
+  ),
+)
 
 pub body_clear : (body : List ℕ) → Clear 10 (hex_text body)
 body_clear [] = clear_text 10 (codes "-") refl

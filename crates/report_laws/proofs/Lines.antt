@@ -1,5 +1,6 @@
 -- What single lines of a report say.
-use Rattle.std.proofs.Common.{◌≡◌, ℕ, zero, suc, ◌+◌, ◌≤◌, ◌<◌, ◌^◌, List, [], ◌∷◌, ◌++◌, refl, sym, ap, ◌∙◌, arith, Option, Some}
+use Rattle.std.proofs.Common.{◌≡◌, ℕ, zero, suc, ◌+◌, ◌≤◌, ◌<◌, ◌^◌, List, [], ◌∷◌, ◌++◌, refl, sym, ap, ◌∙◌, arith}
+use Rattle.std.proofs.Common.{Option, Some}
 use Rattle.std.specs.Prelude.{All, codes, option_map}
 use Rattle.std.specs.Fmt.{decimal}
 use Rattle.std.specs.List.{AllByRecursion, flat_map, join_by}
@@ -109,7 +110,8 @@ module _ (id : ℕ) (most : id ≤ 31) where
   cast_says peer body n is = record {
     says = read (codes "deliver") (decimal id ∷ codes "cast" ∷ decimal peer ∷ hex_text body ∷ [])
         (deliver id peer (hex_text body)) (verb (codes "deliver") refl)
-        (delivered_words (codes "cast") peer body (verb (codes "cast") refl) n is) (clear_text 10 (codes "deliver") refl)
+        (delivered_words (codes "cast") peer body (verb (codes "cast") refl) n is)
+        (clear_text 10 (codes "deliver") refl)
         (delivered_clear (codes "cast") peer body (clear_text 10 (codes "cast") refl))
         (rw (rank_back id most, said_number peer (sayable peer n), body_back body (body_is body is)) refl);
     stays = refl;
@@ -133,8 +135,7 @@ module _ (id : ℕ) (most : id ≤ 31) where
         (and_one (decimal id) (decimal v.ltime ∷ decimal v.mask ∷ []) (number_word id (few id most))
         (and_one (decimal v.ltime) (decimal v.mask ∷ []) (number_word v.ltime (sayable v.ltime is.ltime))
         (one (decimal v.mask) (number_word v.mask (sayable v.mask is.mask)))))
-        (clear_text 10 (codes "view") refl)
-        (
+        (clear_text 10 (codes "view") refl) (
           decimal_clear 10 id (omega arith),
           (decimal_clear 10 v.ltime (omega arith), (decimal_clear 10 v.mask (omega arith), tt)),
         )

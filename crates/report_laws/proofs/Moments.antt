@@ -1,5 +1,6 @@
 -- What the lines of outputs, steps and moments say.
-use Rattle.std.proofs.Common.{◌≡◌, ℕ, zero, suc, ◌+◌, ◌≤◌, List, [], ◌∷◌, ◌++◌, map, refl, sym, ap, subst, arith, Option, Some, None}
+use Rattle.std.proofs.Common.{◌≡◌, ℕ, zero, suc, ◌+◌, ◌≤◌, List, [], ◌∷◌, ◌++◌, map, refl, sym, ap, subst, arith}
+use Rattle.std.proofs.Common.{Option, Some, None}
 use Rattle.std.specs.Prelude.{codes, option_to_list, slice_index_or}
 use Rattle.std.specs.Fmt.{decimal}
 use Rattle.std.specs.List.{AllByRecursion, AllZip, flat_map, enumerate_from}
@@ -19,11 +20,14 @@ use Rattle.layer_mean.specs.Visit.{no_state}
 use Rattle.stack_mean.specs.Plan.{Plan}
 use Rattle.chain_laws.proofs.Lists.{Where}
 use Rattle.run_mean.specs.Common.{with_plans, plan_for, plan_after}
-use Rattle.run_mean.specs.Lines.{number_line, packet_line, view_line, state_out_line, refused_line, absent_line, cell_line}
+use Rattle.run_mean.specs.Lines.{number_line, packet_line, view_line, state_out_line, refused_line, absent_line}
+use Rattle.run_mean.specs.Lines.{cell_line}
 use Rattle.run_mean.specs.Lines.{dest_text, cause_text, stray_text, cell_values}
-use Rattle.run_mean.specs.Member.{Member, inside, out, Refusal, is_out, too_big, is_stray, Output, deliver_cast, deliver_send}
+use Rattle.run_mean.specs.Member.{Member, inside, out, Refusal, is_out, too_big, is_stray, Output, deliver_cast}
+use Rattle.run_mean.specs.Member.{deliver_send}
 use Rattle.run_mean.specs.Member.{block, announce, packet, nowhere, timer, quiet, Step}
-use Rattle.run_mean.specs.Report.{output_lines, number_following, lines_of_outputs, no_annex, step_lines, installed_line}
+use Rattle.run_mean.specs.Report.{output_lines, number_following, lines_of_outputs, no_annex, step_lines}
+use Rattle.run_mean.specs.Report.{installed_line}
 use Rattle.run_mean.specs.Report.{cell_lines, layer_lines, member_lines, packet_given, Moment, lines_of, moment_lines}
 use Rattle.run_mean.specs.Report.{first_number}
 use Rattle.run_mean.specs.Text.{chain_text}
@@ -117,8 +121,7 @@ module _ (stack : List LayerTree) (whole : AllByRecursion Whole stack) where
   packet_skips k id p =
       skipped (codes "packet") (decimal k)
       (decimal id ∷ dest_text p.dest ∷ chain_text stack p.message.headers ∷ hex_text p.message.body ∷ [])
-      (verb (codes "packet") refl) (clear_text 10 (codes "packet") refl) (λ ws. refl) (number_clear k)
-      (
+      (verb (codes "packet") refl) (clear_text 10 (codes "packet") refl) (λ ws. refl) (number_clear k) (
         number_clear id,
         (dest_clear p.dest, (chain_clear stack whole p.message.headers, (body_clear p.message.body, tt))),
       )
@@ -127,8 +130,7 @@ module _ (stack : List LayerTree) (whole : AllByRecursion Whole stack) where
       Clear 10 values → SaysOn (cell_line id place layer name values) silent
   cell_skips id place layer name values is named clear =
       skipped (codes "cell") (decimal id) (decimal place ∷ (layer.name ++ codes "." ++ name) ∷ values ∷ [])
-      (verb (codes "cell") refl) (clear_text 10 (codes "cell") refl) (λ ws. refl) (number_clear id)
-      (
+      (verb (codes "cell") refl) (clear_text 10 (codes "cell") refl) (λ ws. refl) (number_clear id) (
         number_clear place,
         (
           clear_both 10 (layer.name ++ codes ".") name
@@ -167,7 +169,8 @@ module _ (stack : List LayerTree) (whole : AllByRecursion Whole stack) where
 
   -- outputs, in order
 
-  output_says : (id k : ℕ) → id ≤ 31 → (o : Output) → Sayable o → AllZip SaysOn (output_lines stack id k o ++ []) (output_said id o)
+  output_says : (id k : ℕ) → id ≤ 31 → (o : Output) → Sayable o →
+      AllZip SaysOn (output_lines stack id k o ++ []) (output_said id o)
   output_says id k most (deliver_cast peer body) h = (cast_says id most peer body h.0 h.1, tt)
   output_says id k most (deliver_send peer body) h = (send_says id most peer body h.0 h.1, tt)
   output_says id k most (block a) h = (block_skips id a, tt)
@@ -179,7 +182,8 @@ module _ (stack : List LayerTree) (whole : AllByRecursion Whole stack) where
 
   outputs_say : (plans : List Plan) (id : ℕ) → id ≤ 31 → (outputs : List Output) (k : ℕ) (next : Option ℕ) →
       AllByRecursion Sayable outputs →
-      AllZip SaysOn (lines_of_outputs stack no_annex id k (with_plans plans next outputs)) (flat_map (output_said id) outputs)
+      AllZip SaysOn (lines_of_outputs stack no_annex id k (with_plans plans next outputs))
+      (flat_map (output_said id) outputs)
   outputs_say plans id most [] k next all = tt
   outputs_say plans id most (o ∷ outputs) k next all =
       zip_both SaysOn (output_lines stack id k o ++ [])

@@ -1,6 +1,7 @@
 -- The bytes of a report read back as what its run says.
 use Rattle.std.proofs.Common.{◌≡◌, ℕ, zero, suc, ◌+◌, ◌-◌, ◌==◌, ◌<◌, ◌≤◌, ◌^◌, Bool, true, false, List, [], ◌∷◌, ◌++◌}
-use Rattle.std.proofs.Common.{length, take, refl, sym, ap, subst, ◌∙◌, arith, append_assoc, Option, Some, None, Result, Ok, Err}
+use Rattle.std.proofs.Common.{length, take, refl, sym, ap, subst, ◌∙◌, arith, append_assoc, Option, Some, None, Result}
+use Rattle.std.proofs.Common.{Ok, Err}
 use Rattle.std.specs.Prelude.{slice_index, if◌then◌else◌}
 use Rattle.std.specs.List.{AllByRecursion, AllZip, concat, flat_map, slice_split, enumerate_from}
 use Rattle.std.proofs.Math.Seq.{take-append_seam}
@@ -158,11 +159,12 @@ report_reads_back stack s typed named is =
     let xs = flat_map (moment_said stack) (run_of stack plans s) in
     let l = end_line (length s.events) in
     let says = run_says stack plans s.members w s.events typed (whole_layers stack named)
-        (plans_are_numbered stack typed) is.members is.given is.of_members
-        (first_world_is_chained stack s.group s.stamp s.members typed is.group is.stamp is.members) in
+    (plans_are_numbered stack typed) is.members is.given is.of_members
+    (first_world_is_chained stack s.group s.stamp s.members typed is.group is.stamp is.members) in
     let last = end_says (length s.events) is.few in
     let long : length (ls ++ l ∷ []) ≡ length ls + 1 = length-append ls (l ∷ []) in
-    ap (report_from running 1) (lines_back (ls ++ l ∷ []) (xs ++ end ∷ []) (says_all ls xs l says last) (omega (arith, long)))
+    ap (report_from running 1)
+    (lines_back (ls ++ l ∷ []) (xs ++ end ∷ []) (says_all ls xs l says last) (omega (arith, long)))
     ∙ reads ls xs l says last 1
 
 pub audit_finds : AuditFinds

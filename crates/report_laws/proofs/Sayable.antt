@@ -29,7 +29,8 @@ use Rattle.chain_laws.proofs.Lists.{Where, each_map, each_or}
 use Rattle.member_laws.specs.Members.{IsView, IsInside, IsChainedMember, IsEntered, IsGivenEvent, IsChainedWorld}
 use Rattle.member_laws.proofs.Members.{steps_keep_chains, here_is, given_enters, numbered, enters_in_range}
 use Rattle.run_mean.specs.Member.{Member, inside, out, Input, cast, send, leave, tick, datagram, Refusal, Entered}
-use Rattle.run_mean.specs.Member.{entered_input, Output, deliver_cast, deliver_send, packet, packet_to, nowhere, above, below}
+use Rattle.run_mean.specs.Member.{entered_input, Output, deliver_cast, deliver_send, packet, packet_to, nowhere, above}
+use Rattle.run_mean.specs.Member.{below}
 use Rattle.run_mean.specs.Member.{output_of, step_from}
 use Rattle.run_mean.specs.World.{World, Did, taken, refused, absent, shown, member_at, packet_number, happens, here_of}
 use Rattle.run_mean.specs.World.{stepped_inside, stepped_of, step_happening, given_packet}
@@ -91,8 +92,7 @@ module _ (stack : List LayerTree) (plans : List Plan) (w : World) (typed : Typed
       let here = here_of w view id in
       let s = step_from stack here id states what in
       let h = steps_keep_chains stack here id states what typed (here_is stack w view id world is.view_is) is.states_are
-      (enters what refl) in
-      (
+      (enters what refl) in (
         each_map (IsChainedOut stack) Sayable (output_of here) (output_sayable stack here) s.work.outs h.outs,
         installed_sayable stack here.view s.work.states s.installs h.member,
       )
@@ -126,7 +126,8 @@ event_says stack plans w (script.Send id to body) typed are h world =
     (λ here what. enters_in_range stack plans here (send to body) what are h)
 event_says stack plans w (script.Leave id) typed are h world = step_says stack plans w typed world id leave
     (λ here what. enters_in_range stack plans here leave what are tt)
-event_says stack plans w (script.Tick id moment) typed are h world = step_says stack plans w typed world id (tick moment)
+event_says stack plans w (script.Tick id moment) typed are h world =
+    step_says stack plans w typed world id (tick moment)
     (λ here what. enters_in_range stack plans here (tick moment) what are h)
 event_says stack plans w (script.Give k id) typed are h world =
     given_says stack plans w typed world id (packet_number w k) (numbered stack w k world)

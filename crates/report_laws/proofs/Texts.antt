@@ -1,5 +1,6 @@
 -- Headers, messages and rows as a report writes them are whole: they have no line feed.
-use Rattle.std.proofs.Common.{◌≡◌, ℕ, zero, suc, ◌+◌, ◌-◌, ◌==◌, Bool, true, false, List, [], ◌∷◌, ◌++◌, map, refl, arith}
+use Rattle.std.proofs.Common.{◌≡◌, ℕ, zero, suc, ◌+◌, ◌-◌, ◌==◌, Bool, true, false, List, [], ◌∷◌, ◌++◌, map, refl}
+use Rattle.std.proofs.Common.{arith}
 use Rattle.std.proofs.Common.{Option, Some, None}
 use Rattle.std.specs.Prelude.{◌&&◌, if◌then◌else◌, codes, slice_index_or, option_to_list}
 use Rattle.std.specs.Fmt.{decimal}
@@ -16,7 +17,8 @@ use Rattle.chain_laws.proofs.Lists.{each_or, each_append, each_map}
 use Rattle.run_mean.specs.Text.{layer_number, header_name, header_text, chain_text, message_text, row_text, rows_text}
 use Rattle.run_mean.specs.Lines.{numbers_text, queue_name, cell_values}
 use Rattle.report_laws.specs.ReadsBack.{is_whole, has_whole_names, HasWholeNames}
-use Rattle.report_laws.proofs.Clear.{Clear, clear_text, clear_both, clear_all, clear_joined, clear_flat, decimal_clear, body_clear}
+use Rattle.report_laws.proofs.Clear.{Clear, clear_text, clear_both, clear_all, clear_joined, clear_flat, decimal_clear}
+use Rattle.report_laws.proofs.Clear.{body_clear}
 
 -- the names of a layer, one by one
 pub record Whole (layer : LayerTree) : Type 0 where

@@ -1,5 +1,6 @@
 -- The report of a run, read line by line by an audit, says what the definitions say of the run.
-use Rattle.std.specs.Prelude.{◌≡◌, ℕ, ◌==◌, ◌<◌, ◌≤◌, ◌^◌, ◌&&◌, not, Bool, true, false, List, [], length, Result, Ok, Err, if◌then◌else◌}
+use Rattle.std.specs.Prelude.{◌≡◌, ℕ, ◌==◌, ◌<◌, ◌≤◌, ◌^◌, ◌&&◌, not, Bool, true, false, List, [], length, Result, Ok}
+use Rattle.std.specs.Prelude.{Err, if◌then◌else◌}
 use Rattle.std.specs.List.{AllByRecursion, list_all, concat, enumerate_from}
 use Rattle.msg_core.specs.View.{most_members}
 use Rattle.script_mean.specs.Event.{member_of}
