@@ -17,6 +17,7 @@ MEANT.update({word: "the first argument of `up Timer(t)`" for word in ("time", "
 MEANT.update({word: "the first argument of `up Cast(o, m)`" for word in ("sender", "origin", "from")})
 # A longer text isn't read again, which would take seconds, and a cause is said as it is.
 LONGEST_READ = 300_000
+MOST_STEPS = 8
 PLAIN = {
     "token": "no token begins here",
     "unexpected": "no file goes on with what stands here",
@@ -441,12 +442,56 @@ def initial(text, at):
     return "an initial value is made of numbers, params, `me`, `n`, `ltime` and operations on them: cells have no values yet"
 
 
+def graph_of(text):
+    """The graph of the stack of a text whose names and types are good, and the layers that the text itself has."""
+    layers, places = reading.Parser(text).file()
+    own, texts = {layer["name"][0]: layer for layer in layers}, reading.library()
+    brought = {word: reading.Parser(texts[word] + b"stack { x; }").file()[0][0] for word in {place["name"][0] for place in places} - own.keys()}
+    return reading.Graph([({**brought, **own}[place["name"][0]], place) for place in places]), own
+
+
+def way_round(graph, start):
+    """The shortest way from an event at a place back to it; None where there is none."""
+    before, left = {}, [start]
+    for node in left:
+        for follower in [follower for _, nodes in graph.follows(node)[0] for follower in nodes]:
+            if follower == start:
+                way = [node]
+                while way[-1] != start:
+                    way.append(before[way[-1]])
+                return way[::-1]
+            if follower not in before:
+                before[follower] = node
+                left.append(follower)
+    return None
+
+
+def step_told(graph, own, node):
+    """An event at a place, with its header, and the line of its handler, where that is in the file."""
+    place, direction, kind, tag = node
+    name = graph.stack[place][0]["name"][0]
+    handler = graph.handler(place, direction, kind, tag)
+    line = f", line {handler['at'][0]}" if handler and name in own else "" if handler else ", which passes it on"
+    header = f" with `{graph.headers[place if direction == 'up' else place + 1][tag - 1]['name'][0]}`" if tag else ""
+    return f"{direction} {kind}{header} at place {place} (`{name}`{line})"
+
+
+def round_told(text, place, kind_word):
+    """The shortest way round of an event of this kind that passes this place, step by step."""
+    graph, own = graph_of(text)
+    ways = [way_round(graph, node) for node in graph.nodes() if node[0] == place and node[2] == kind_word]
+    steps = [step_told(graph, own, node) for node in min(filter(None, ways), key=len)]
+    more = ["..", steps[-1]] if len(steps) > MOST_STEPS else []
+    seen = "; of its headers only the next layer's is looked at" if kind_word in reading.CARRIES else ""
+    return ", then ".join(steps[:MOST_STEPS - 1] + more if more else steps) + f", and so on{seen}"
+
+
 def cycle(text, place, kind_word):
-    said = "can come back to it without end: layers send it round between up and down"
+    said = "can come back to it without end"
     if len(text) > LONGEST_READ:
-        return None, None, f"a {kind_word} that passes place {place}, counted from 0, {said}"
+        return None, None, f"a {kind_word} that passes place {place}, counted from 0, {said}: layers send it round between up and down"
     name, at = reading.Parser(text).file()[1][place]["name"]
-    return *at, f"a {kind_word} that passes place {place}, `{name}`, {said}"
+    return *at, f"a {kind_word} that passes place {place}, `{name}`, {said}: {round_told(text, place, kind_word)}"
 
 
 SENTENCES = {
