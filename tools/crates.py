@@ -50,7 +50,7 @@ def groups():
         if line.startswith("# "):
             found.append((line[2:].strip(), []))
         elif colon and not line.startswith("#"):
-            found[-1][1].append((name.strip(), below.split()))
+            found[-1][1].append((name.split()[0], below.split()))
     return [(heading, crates) for heading, crates in found if crates]
 
 

@@ -116,7 +116,7 @@ def chain():
     for line in lines_of(os.path.join(TOP, "crates.txt")):
         name, colon, below = line.split("#")[0].partition(":")
         if colon:
-            graph[name.strip()] = below.split()
+            graph[name.split()[0]] = below.split()
     has_code = {name: not name.endswith(("_laws", "_mean", "_rows", "_tests")) and any(re.search(r"\bfn [a-z_0-9]+", "\n".join(lines_of(path)))
                           for path in paths("src/**/*.rt") if f"/crates/{name}/" in path) for name in graph}
     longest = {}

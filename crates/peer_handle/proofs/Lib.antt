@@ -1,0 +1,4 @@
+mod AsBox
+mod Opens
+mod Rules
+mod Sound
