@@ -10,31 +10,8 @@ name=$1 folder=$(readlink -f "$2")
 kit=$(dirname "$(dirname "$(readlink -f "$(command -v rt)")")")
 away="$folder/kit"
 
-# Links each file of a folder of the kit into another one.
-link_all() {
-  mkdir -p "$2"
-  for file in "$1"/*; do ln -s "$file" "$2/"; done
-}
-
-# A file of the folder that stands for the kit, in place of a link.
-in_place() {
-  rm -f "$away/$1"
-  cat >"$away/$1"
-  chmod +x "$away/$1"
-}
-
-# rt finds its kit by its own path, so its scripts are copied and not linked.
-stand_for_kit() {
-  link_all "$kit" "$away"
-  rm "$away/bin" "$away/toolchain"
-  link_all "$kit/bin" "$away/bin"
-  link_all "$kit/toolchain" "$away/toolchain"
-  rm "$away/toolchain/bin"
-  link_all "$kit/toolchain/bin" "$away/toolchain/bin"
-  for script in rt rtlib.py; do in_place "bin/$script" <"$kit/bin/$script"; done
-  # (beside a trial rt asks the prover for a hint, which nobody reads here)
-  in_place bin/rattle <<<$'#!/bin/sh\nexit 0'
-}
+# shellcheck source=tools/standing_kit.sh
+. "$top/tools/standing_kit.sh"
 
 # The compiler of the module makes an object, and refuses it to the trial, which then ends.
 take_module() {
