@@ -1,7 +1,7 @@
 #!/usr/bin/env python3
-"""Takes the files off docs/TUTORIAL.md, runs its commands in order, and compares each output with the page's.
+"""Takes the files off docs/TUTORIAL.md and docs/PROTOCOLS.md, runs their commands in order, and compares each output with the page's.
 
-`tutorial.py --fill` writes what the program prints into the page in place of what stands there.
+`tutorial.py --fill` writes what the program prints into the pages in place of what stands there.
 """
 import os
 import re
@@ -12,7 +12,7 @@ import tempfile
 from journals import free_ports
 from tree import TOP
 
-PAGE = os.path.join(TOP, "docs", "TUTORIAL.md")
+PAGES = [os.path.join(TOP, "docs", name) for name in ("TUTORIAL.md", "PROTOCOLS.md")]
 HUNTS = os.environ.get("STACKHUNT", "")
 HUNTED = re.compile(r"hasty|patient")    # files that a hunt writes, or is made over
 FENCE = re.compile(r"^```([a-z]*)(?: (\S+))?\n(.*?)^```$", re.M | re.S)
@@ -42,8 +42,9 @@ def with_free_ports(text):
     return text
 
 
-def main():
-    with open(PAGE, encoding="utf-8") as file:
+def try_page(path):
+    """Runs a page, and answers whether all is so."""
+    with open(path, encoding="utf-8") as file:
         page = file.read()
     files, tried, wrong, filled, at = 0, 0, 0, [], 0
     with tempfile.TemporaryDirectory(prefix="stackc-") as folder:
@@ -75,12 +76,12 @@ def main():
             filled.append("```console\n" + "\n".join(lines) + "\n```")
     filled.append(page[at:])
     if "--fill" in sys.argv:
-        with open(PAGE, "w", encoding="utf-8") as file:
+        with open(path, "w", encoding="utf-8") as file:
             file.write("".join(filled))
-        return 0
-    print(f"tutorial: {files} files, {tried} commands, {wrong} outputs that differ")
-    return 1 if wrong or not tried else 0
+        return True
+    print(f"tutorial: {os.path.basename(path)}: {files} files, {tried} commands, {wrong} outputs that differ")
+    return tried > 0 and not wrong
 
 
 if __name__ == "__main__":
-    sys.exit(main())
+    sys.exit(0 if all([try_page(path) for path in PAGES]) else 1)

@@ -1,19 +1,19 @@
 -- What ranks have cast, when more is sent; and how much members have delivered, when more is delivered.
-use Rattle.std.proofs.Common.{◌≡◌, ◌≢◌, ℕ, ◌+◌, ◌==◌, ◌<◌, ◌≤◌, Bool, true, false, List, [], ◌∷◌, ◌++◌, length, refl}
+use Rattle.std.proofs.Common.{◌≡◌, ◌≢◌, ℕ, ◌+◌, ◌==◌, ◌≤◌, Bool, true, false, List, [], ◌∷◌, ◌++◌, length, refl}
 use Rattle.std.proofs.Common.{sym}
 use Rattle.std.proofs.Common.{ap, subst, ◌∙◌, arith, Option, Some, None, count_by}
 use Rattle.std.specs.Prelude.{slice_get}
-use Rattle.std.specs.List.{AllByRecursion, filter_map}
-use Rattle.std.proofs.lemmas.Bool.{eqb-true, eq-eqb}
-use Rattle.std.proofs.lemmas.List.{append-nil, length-append}
+use Rattle.std.specs.List.{AllByRecursion}
+use Rattle.std.proofs.lemmas.Bool.{eq-eqb}
+use Rattle.std.proofs.lemmas.List.{length-append}
 use Rattle.std.proofs.lemmas.List.Elements.{filter_map-append}
 use Rattle.msg_core.specs.declared.packet.Dest.{Dest}
 use Rattle.msg_core.specs.declared.packet.Dest.TheVariants.{All, Rank}
 use Rattle.msg_core.specs.declared.packet.Packet.{Packet}
 use Rattle.script_mean.specs.Words.{Word}
-use Rattle.audit_mean.specs.Segment.{Entry, first_segment}
+use Rattle.audit_mean.specs.Segment.{Entry}
 use Rattle.audit_mean.specs.Clash.{of_each_peer, same_list}
-use Rattle.fifo_laws.specs.Protocol.{cast_to, cast_in, casts_of, IsCast, IsSentTo, delivery, got}
+use Rattle.fifo_laws.specs.Protocol.{cast_in, casts_of, IsSentTo, delivery, got}
 use Rattle.protocol_laws.proofs.Lists.{get_more, count_both, count_none, found_none, all_so, not_same}
 
 pub casts_both : (packets more : List Packet) (peer : ℕ) →

@@ -1,6 +1,6 @@
 -- Each step of `fifo` keeps what the proof says of members, packets and deliveries.
-use Rattle.std.proofs.Common.{◌≡◌, ◌≢◌, ℕ, ◌+◌, ◌==◌, ◌<◌, ◌≤◌, ◌%◌, ◌^◌, Bool, true, false, List, [], ◌∷◌, ◌++◌, map}
-use Rattle.std.proofs.Common.{length, refl, sym, ap, subst, ◌∙◌, arith, Option, Some, None, replicate, get_or}
+use Rattle.std.proofs.Common.{◌≡◌, ◌≢◌, ℕ, ◌+◌, ◌==◌, ◌<◌, ◌%◌, ◌^◌, Bool, true, false, List, [], ◌∷◌, ◌++◌}
+use Rattle.std.proofs.Common.{length, refl, sym, ap, subst, ◌∙◌, arith, Some, replicate}
 use Rattle.std.proofs.Common.{get_or-set_same, get_or-set_other, length-set}
 use Rattle.std.specs.Prelude.{slice_get, slice_set, slice_index}
 use Rattle.std.specs.List.{AllByRecursion}
@@ -16,19 +16,16 @@ use Rattle.msg_core.specs.declared.packet.View.{View}
 use Rattle.script_mean.specs.Words.{Word}
 use Rattle.script_mean.specs.EventText.{hex_text}
 use Rattle.audit_mean.specs.Segment.{Entry}
-use Rattle.audit_mean.specs.Clash.{of_each_peer}
 use Rattle.layer_mean.specs.State.{State}
-use Rattle.packet_mean.specs.Received.{IsFor}
 use Rattle.packet_mean.specs.declared.here.Here.{Here}
 use Rattle.run_mean.specs.Member.{Entered, app_cast, app_send, app_leave, clock_tick, from_peer, Step, step_from}
 use Rattle.run_mean.specs.Member.{packet_to}
-use Rattle.order_laws.specs.Deliveries.{AreTold, place_after}
-use Rattle.protocol_laws.specs.Protocol.{Leaves, Yields, here_at, Arrived, Arrives, IsOther, IsProved}
+use Rattle.protocol_laws.specs.Protocol.{Leaves, Yields, here_at, Arrives, IsOther}
 use Rattle.protocol_laws.proofs.Lists.{get_last}
 use Rattle.fifo_laws.specs.Layer.{stack}
 use Rattle.fifo_laws.specs.Steps.{holding, numbered, numbered_packet, after_given, is_bare, after_send_given, goes_out}
 use Rattle.fifo_laws.specs.Steps.{after_send, sent_down}
-use Rattle.fifo_laws.specs.Protocol.{casts_of, IsCast, IsSentTo, delivery, got, HasCounted, fifo_protocol, FifoIsProved}
+use Rattle.fifo_laws.specs.Protocol.{casts_of, IsSentTo, delivery, got, HasCounted, fifo_protocol, FifoIsProved}
 use Rattle.fifo_laws.proofs.Steps.{steps_are}
 use Rattle.fifo_laws.proofs.Casts.{casts_both, cast_stays, sent_stays, no_casts, send_no_cast, casts_few, got_others}
 use Rattle.fifo_laws.proofs.Casts.{got_own}

@@ -1,5 +1,5 @@
 -- Steps of a member whose stack is this layer, each from its one visit.
-use Rattle.std.proofs.Common.{◌≡◌, ℕ, ◌==◌, Bool, true, false, List, [], ◌∷◌, map, refl, ap, ◌∙◌, Option, Some, None}
+use Rattle.std.proofs.Common.{◌≡◌, ℕ, ◌==◌, Bool, true, false, List, [], ◌∷◌, map, refl, ap, ◌∙◌}
 use Rattle.std.specs.Prelude.{slice_index, slice_get, option_map}
 use Rattle.std.specs.List.{filter_map}
 use Rattle.msg_core.specs.declared.packet.Dest.TheVariants.{Rank}
@@ -11,7 +11,7 @@ use Rattle.layer_mean.specs.Visit.{Visited, step}
 use Rattle.packet_mean.specs.declared.here.Here.{Here}
 use Rattle.run_mean.specs.Member.{Entered, app_cast, app_send, from_peer, Step, step_from, output_of, installed_member}
 use Rattle.run_mean.specs.Member.{announced_ranks}
-use Rattle.fifo_laws.specs.Layer.{fifo, stack}
+use Rattle.fifo_laws.specs.Layer.{stack}
 use Rattle.fifo_laws.specs.Steps.{holding, come_up, CastSteps, numbered_packet, after_given, GivenSteps, is_bare}
 use Rattle.fifo_laws.specs.Steps.{after_send_given, SendGivenSteps, goes_out, after_send, SendSteps, LeaveSteps}
 use Rattle.fifo_laws.specs.Steps.{TickSteps, StepsAre}

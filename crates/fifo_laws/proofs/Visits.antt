@@ -1,10 +1,10 @@
 -- Visits of the layer at open states: each computes, by cases on the one condition.
 use Rattle.std.proofs.Common.{◌≡◌, ℕ, ◌==◌, Bool, true, false, List, [], ◌∷◌, refl}
-use Rattle.std.specs.Prelude.{slice_index, Some}
-use Rattle.msg_core.specs.Chain.{Content, popped, first_of}
+use Rattle.std.specs.Prelude.{slice_index}
+use Rattle.msg_core.specs.Chain.{Content, popped}
 use Rattle.msg_core.specs.declared.message.Header.{Header}
 use Rattle.layer_words.specs.declared.events.Dir.TheVariants.{Up}
-use Rattle.layer_mean.specs.Effect.{usual, unusual}
+use Rattle.layer_mean.specs.Effect.{unusual}
 use Rattle.layer_mean.specs.State.{State}
 use Rattle.layer_mean.specs.Visit.{Visited, step}
 use Rattle.layer_rows.specs.Words.{cast}

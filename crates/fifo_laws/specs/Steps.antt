@@ -9,7 +9,6 @@ use Rattle.msg_core.specs.declared.packet.Dest.TheVariants.{All, Rank}
 use Rattle.msg_core.specs.declared.packet.Packet.{Packet}
 use Rattle.layer_words.specs.declared.events.Dir.{Dir}
 use Rattle.layer_words.specs.declared.events.Dir.TheVariants.{Up, Down}
-use Rattle.layer_words.specs.declared.events.Kind.{Kind}
 use Rattle.layer_words.specs.declared.events.Kind.TheVariants.{Send, Leave, Timer}
 use Rattle.layer_mean.specs.declared.run.Event.{Event}
 use Rattle.layer_mean.specs.Effect.{Decision, usual, unusual}

@@ -1,9 +1,9 @@
-//! A protocol that is proved: the layer `fifo` of the tutorial delivers the casts of each peer in the order in which
-//! they were cast, in every script. Each law is the contract of a function that does nothing.
+//! A protocol that is proved: the layer `fifo` of the tutorial delivers the casts of each peer in the order in
+//! which they were cast, in every script. Each law is the contract of a function that does nothing.
 #![tactic(auto)]
 
 ghost use Rattle.fifo_laws.specs.Layer.{TextMeans};
-ghost use Rattle.fifo_laws.specs.Law.{DeliversFirst, IsTyped, SenderHolds};
+ghost use Rattle.fifo_laws.specs.Law.{AuditHolds, DeliversFirst, IsTyped, SenderHolds};
 ghost use Rattle.fifo_laws.specs.Protocol.{FifoIsProved};
 ghost use Rattle.fifo_laws.specs.Steps.{CastComesUp, CastGoesDown, StepsAre};
 
@@ -45,4 +45,9 @@ pub fn sender_holds()
 /// What a member delivers of a peer are the first so many of the peer's casts.
 pub fn delivers_first()
     ensures { DeliversFirst }
+{}
+
+/// An audit of the report of such a script says that it holds.
+pub fn audit_holds()
+    ensures { AuditHolds }
 {}

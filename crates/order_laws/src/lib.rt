@@ -1,5 +1,5 @@
-//! Laws of order, each the contract of a function that does nothing: by which table a report keeps `sender` or `total`,
-//! and which deliveries a report without a view change has. In `specs/`, what the lines of a report say.
+//! Laws of order, each the contract of a function that does nothing: by which table a report keeps `sender` or
+//! `total`, and which deliveries a report without a view change has. In `specs/`, what the lines of a report say.
 #![tactic(auto)]
 
 ghost use Rattle.order_laws.specs.Deliveries.{ToldAreFirst, ToldKeep};

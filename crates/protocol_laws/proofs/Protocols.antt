@@ -2,8 +2,8 @@
 use Rattle.std.proofs.Common.{◌≡◌, ◌≢◌, ℕ, zero, suc, ◌+◌, ◌<◌, ◌≤◌, ◌^◌, List, [], ◌∷◌, ◌++◌, map, length, refl, sym}
 use Rattle.std.proofs.Common.{ap}
 use Rattle.std.proofs.Common.{subst, ◌∙◌, arith, Option, Some, None}
-use Rattle.std.specs.Prelude.{slice_get, slice_set, slice_index_or, option_to_list}
-use Rattle.std.specs.List.{AllByRecursion, enumerate_from, filter_map, flat_map, range_with_len}
+use Rattle.std.specs.Prelude.{slice_set, slice_index_or, option_to_list}
+use Rattle.std.specs.List.{AllByRecursion, enumerate_from, flat_map, range_with_len}
 use Rattle.std.specs.Option.{option_map_or}
 use Rattle.std.proofs.lemmas.List.{append-nil, length-append}
 use Rattle.msg_core.specs.View.{rank, member_count, first_view}
@@ -21,18 +21,18 @@ use Rattle.packet_mean.specs.declared.here.Here.{Here}
 use Rattle.stack_mean.specs.Plans.{plans_of}
 use Rattle.run_mean.specs.Member.{Member, inside, out, opened_member, Entered, app_cast, app_send, app_leave}
 use Rattle.run_mean.specs.Member.{clock_tick}
-use Rattle.run_mean.specs.Member.{from_peer, Step, step_from, packet_in, member_following}
+use Rattle.run_mean.specs.Member.{from_peer, step_from}
 use Rattle.run_mean.specs.World.{World, member_at, here_of, world_after, first_world}
 use Rattle.run_mean.specs.Report.{run_of}
-use Rattle.order_laws.specs.Deliveries.{Table, AreTold}
-use Rattle.order_laws.specs.Said.{output_said, installed_said, step_said, moment_said, report_said}
+use Rattle.order_laws.specs.Deliveries.{AreTold}
+use Rattle.order_laws.specs.Said.{output_said, installed_said, step_said, moment_said}
 use Rattle.order_laws.specs.Calm.{AreCalm, deliveries_from}
 use Rattle.order_laws.proofs.Told.{told_keep, told_both, told_more}
 use Rattle.order_laws.proofs.Calm.{calm_both, deliveries_both, calm_deliveries}
-use Rattle.protocol_laws.specs.Runs.{IsOneOf, Comes, IsKept, IsFair, all_sent}
-use Rattle.protocol_laws.specs.Protocol.{Protocol, IsIn, IsMember, Stands, sent_in, delivered_in, Leaves, Yields}
+use Rattle.protocol_laws.specs.Runs.{Comes, IsKept, all_sent}
+use Rattle.protocol_laws.specs.Protocol.{Protocol, IsIn, IsMember, Stands, sent_in, Leaves, Yields}
 use Rattle.protocol_laws.specs.Protocol.{here_at}
-use Rattle.protocol_laws.specs.Protocol.{Arrived, Arrives, IsOther, IsProved, Keeps, ProtocolsKeep}
+use Rattle.protocol_laws.specs.Protocol.{Arrives, IsProved, ProtocolsKeep}
 use Rattle.protocol_laws.proofs.Lists.{get_both, set_all, one_rank}
 use Rattle.protocol_laws.proofs.Runs.{runs_keep}
 use Rattle.protocol_laws.proofs.Steps.{sent_from, outputs_calm, delivered_of}

@@ -2,7 +2,7 @@
 use Rattle.std.proofs.Common.{◌≡◌, ℕ, zero, suc, ◌+◌, Bool, true, false, List, [], ◌∷◌, ◌++◌, map, length, refl, sym}
 use Rattle.std.proofs.Common.{ap}
 use Rattle.std.proofs.Common.{subst, ◌∙◌, append_assoc, Option, Some, None, Result, Ok, Err}
-use Rattle.std.specs.Prelude.{nat_lt, slice_get, if◌then◌else◌}
+use Rattle.std.specs.Prelude.{nat_lt, if◌then◌else◌}
 use Rattle.std.specs.List.{AllByRecursion, flat_map}
 use Rattle.std.proofs.lemmas.List.{append-nil}
 use Rattle.std.proofs.lemmas.List.Concat.{flat_map-cons}
@@ -17,7 +17,7 @@ use Rattle.audit_mean.specs.Line.{ReportLine, silent}
 use Rattle.layer_mean.specs.Tree.{LayerTree}
 use Rattle.layer_mean.specs.State.{State}
 use Rattle.packet_mean.specs.Reading.{preamble_of}
-use Rattle.packet_mean.specs.Received.{◌>>=◌, meant_for, received}
+use Rattle.packet_mean.specs.Received.{◌>>=◌, meant_for}
 use Rattle.packet_mean.specs.Spelling.{full_form, full_bytes, IsSpellable, SpellsPacket}
 use Rattle.packet_laws.specs.Strays.{AreNumbered}
 use Rattle.packet_laws.proofs.Once.{one_full_spelling}
@@ -25,7 +25,7 @@ use Rattle.packet_laws.proofs.Strays.{received_as_meant}
 use Rattle.stack_mean.specs.Plan.{Plan}
 use Rattle.stack_mean.specs.Plans.{plans_of}
 use Rattle.run_mean.specs.Member.{Member, inside, out, Input, cast, send, leave, tick, datagram, Refusal, too_big}
-use Rattle.run_mean.specs.Member.{Entered, app_cast, app_send, app_leave, clock_tick, from_peer, from_datagram}
+use Rattle.run_mean.specs.Member.{Entered, app_cast, app_send, from_datagram}
 use Rattle.run_mean.specs.Member.{entered_input}
 use Rattle.run_mean.specs.World.{World, Happening, member_at, packet_number, happens, here_of, stepped_of}
 use Rattle.run_mean.specs.World.{stepped_inside}
@@ -37,7 +37,7 @@ use Rattle.member_laws.specs.Members.{IsGivenEvent, IsChainedWorld}
 use Rattle.member_laws.proofs.Members.{events_keep_chains, first_world_is_chained, numbered}
 use Rattle.member_laws.proofs.Numbered.{plans_are_numbered}
 use Rattle.order_laws.specs.Said.{did_said, moment_said}
-use Rattle.protocol_laws.specs.Runs.{IsOneOf, Comes, Property, IsKept, IsUnforged, IsFair, last_world, RunsKeep}
+use Rattle.protocol_laws.specs.Runs.{IsOneOf, Comes, Property, IsKept, IsUnforged, last_world, RunsKeep}
 use Rattle.protocol_laws.specs.Runs.{RawIsGiven}
 use Rattle.protocol_laws.specs.Runs.{Passes, TestsKeep}
 use Rattle.protocol_laws.proofs.Meant.{meant_is_for}

@@ -1,10 +1,10 @@
 -- What any step sends and delivers: its packets are from the member's rank, its deliveries the member's, and no output
 -- tells of a view.
 use Rattle.std.proofs.Common.{◌≡◌, ℕ, ◌+◌, ◌==◌, ◌&&◌, not, Bool, true, false, List, [], ◌∷◌, ◌++◌, map, length, refl}
-use Rattle.std.proofs.Common.{sym, ap}
-use Rattle.std.proofs.Common.{subst, Option, Some, None}
+use Rattle.std.proofs.Common.{sym}
+use Rattle.std.proofs.Common.{subst}
 use Rattle.std.specs.Prelude.{nat_lt, if◌then◌else◌}
-use Rattle.std.specs.List.{AllByRecursion, filter_map, flat_map, enumerate_from, cons_option}
+use Rattle.std.specs.List.{AllByRecursion, filter_map, flat_map}
 use Rattle.std.proofs.lemmas.List.Concat.{flat_map-cons}
 use Rattle.msg_core.specs.View.{member_count}
 use Rattle.msg_core.specs.declared.packet.Dest.TheVariants.{Rank}
@@ -14,8 +14,7 @@ use Rattle.layer_words.specs.declared.events.Dir.TheVariants.{Up, Down}
 use Rattle.layer_words.specs.declared.events.Kind.{Kind}
 use Rattle.layer_words.specs.declared.events.Kind.TheVariants as kind
 use Rattle.layer_mean.specs.declared.run.Event.{Event}
-use Rattle.audit_mean.specs.Line.{ReportLine}
-use Rattle.audit_mean.specs.Segment.{Entry, Numbered}
+use Rattle.audit_mean.specs.Segment.{Entry}
 use Rattle.packet_mean.specs.declared.here.Here.{Here}
 use Rattle.chain_laws.proofs.Lists.{Where}
 use Rattle.member_laws.proofs.Members.{cons_each}
@@ -23,7 +22,7 @@ use Rattle.run_mean.specs.Member.{Output, deliver_cast, deliver_send, block, ann
 use Rattle.run_mean.specs.Member.{nowhere, timer, quiet}
 use Rattle.run_mean.specs.Member.{above, below, output_of, packet_in}
 use Rattle.order_laws.specs.Said.{output_said}
-use Rattle.order_laws.specs.Calm.{IsCalm, AreCalm, first_entry, deliveries_from}
+use Rattle.order_laws.specs.Calm.{AreCalm, deliveries_from}
 use Rattle.order_laws.proofs.Calm.{calm_both, deliveries_both}
 
 -- whether a packet is from a rank

@@ -1,6 +1,6 @@
 -- How a protocol is proved whose members stay in one view: what is so of each member, of each packet and of the
 -- deliveries, and that one step of one member keeps it.
-use Rattle.std.specs.Prelude.{◌≡◌, ◌≢◌, ℕ, ◌+◌, ◌<◌, ◌≤◌, ◌^◌, List, [], ◌∷◌, ◌++◌, length, map, slice_get, Option}
+use Rattle.std.specs.Prelude.{◌≡◌, ◌≢◌, ℕ, ◌+◌, ◌<◌, ◌≤◌, ◌^◌, List, [], ◌++◌, length, map, slice_get}
 use Rattle.std.specs.Prelude.{Some, None}
 use Rattle.std.specs.List.{AllByRecursion, enumerate_from, filter_map, flat_map}
 use Rattle.msg_core.specs.View.{rank, member_count, first_view}

@@ -14,7 +14,7 @@ use Rattle.packet_mean.specs.Received.{IsFor}
 use Rattle.packet_mean.specs.Spelling.{SpellsPacket}
 use Rattle.stack_mean.specs.Plan.{Plan}
 use Rattle.stack_mean.specs.Plans.{plans_of}
-use Rattle.run_mean.specs.Member.{inside, Entered, from_peer, Step, step_from}
+use Rattle.run_mean.specs.Member.{inside, Entered, from_peer, step_from}
 use Rattle.run_mean.specs.World.{World, member_at, here_of, world_after, first_world, packet_number, happens}
 use Rattle.run_mean.specs.Report.{Moment, run_of}
 use Rattle.chain_laws.specs.Runs.{TypedStack}

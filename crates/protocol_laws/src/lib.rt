@@ -1,5 +1,6 @@
-//! Laws by which a protocol is proved for every script: what each step of a member keeps holds along every run. Each is
-//! the contract of a function that does nothing; the forms of them for all predicates are lemmas in `proofs/`.
+//! Laws by which a protocol is proved for every script: what each step of a member keeps holds along every run.
+//! Each is the contract of a function that does nothing; the forms of them for all predicates are lemmas in
+//! `proofs/`.
 #![tactic(auto)]
 
 ghost use Rattle.protocol_laws.specs.Runs.{RawIsGiven, TestsKeep};

@@ -1,11 +1,11 @@
 -- Texts without a byte.
 use Rattle.std.proofs.Common.{◌≡◌, ◌≢◌, ℕ, zero, suc, ◌+◌, ◌==◌, ◌/◌, ◌%◌, ◌≤◌, Bool, true, false, not, List, [], ◌∷◌}
-use Rattle.std.proofs.Common.{◌++◌, map, refl, arith}
-use Rattle.std.specs.Prelude.{◌&&◌, nat_lt, slice_index, if◌then◌else◌, codes}
+use Rattle.std.proofs.Common.{◌++◌, refl, arith}
+use Rattle.std.specs.Prelude.{nat_lt, if◌then◌else◌, codes}
 use Rattle.std.specs.Fmt.{digit_glyph, digits_onto, digits, decimal}
 use Rattle.std.specs.List.{AllByRecursion, list_all, join_by, flat_map}
 use Rattle.std.proofs.lemmas.Bool.{and_parts, eqb-true}
-use Rattle.hex.specs.Hex.{encode_with, encode_lower, lower_digits}
+use Rattle.hex.specs.Hex.{encode_with, lower_digits}
 use Rattle.script_mean.specs.EventText.{hex_text}
 use Rattle.chain_laws.proofs.Lists.{each_append, each_or}
 

@@ -1,10 +1,9 @@
 -- What the lines of outputs, steps and moments say.
-use Rattle.std.proofs.Common.{◌≡◌, ℕ, zero, suc, ◌+◌, ◌≤◌, List, [], ◌∷◌, ◌++◌, map, refl, sym, ap, subst, arith}
+use Rattle.std.proofs.Common.{ℕ, ◌+◌, ◌≤◌, List, [], ◌∷◌, ◌++◌, map, refl, arith}
 use Rattle.std.proofs.Common.{Option, Some, None}
 use Rattle.std.specs.Prelude.{codes, option_to_list, slice_index_or}
 use Rattle.std.specs.Fmt.{decimal}
 use Rattle.std.specs.List.{AllByRecursion, AllZip, flat_map, enumerate_from}
-use Rattle.std.proofs.lemmas.List.Concat.{flat_map-cons}
 use Rattle.msg_core.specs.declared.packet.Dest.{Dest}
 use Rattle.msg_core.specs.declared.packet.Dest.TheVariants.{All, Rank}
 use Rattle.msg_core.specs.declared.packet.Packet.{Packet}
@@ -13,26 +12,26 @@ use Rattle.msg_core.specs.declared.packet.Stray.TheVariants as stray
 use Rattle.msg_core.specs.declared.packet.View.{View}
 use Rattle.script_mean.specs.EventText.{hex_text}
 use Rattle.script_mean.specs.Event.{member_of}
-use Rattle.audit_mean.specs.Line.{ReportLine, silent}
+use Rattle.audit_mean.specs.Line.{silent}
 use Rattle.layer_mean.specs.Tree.{LayerTree, CellTree}
 use Rattle.layer_mean.specs.State.{State, cell_at}
 use Rattle.layer_mean.specs.Visit.{no_state}
 use Rattle.stack_mean.specs.Plan.{Plan}
 use Rattle.chain_laws.proofs.Lists.{Where}
-use Rattle.run_mean.specs.Common.{with_plans, plan_for, plan_after}
+use Rattle.run_mean.specs.Common.{with_plans, plan_after}
 use Rattle.run_mean.specs.Lines.{number_line, packet_line, view_line, state_out_line, refused_line, absent_line}
 use Rattle.run_mean.specs.Lines.{cell_line}
 use Rattle.run_mean.specs.Lines.{dest_text, cause_text, stray_text, cell_values}
 use Rattle.run_mean.specs.Member.{Member, inside, out, Refusal, is_out, too_big, is_stray, Output, deliver_cast}
 use Rattle.run_mean.specs.Member.{deliver_send}
-use Rattle.run_mean.specs.Member.{block, announce, packet, nowhere, timer, quiet, Step}
+use Rattle.run_mean.specs.Member.{block, announce, packet, nowhere, timer, quiet}
 use Rattle.run_mean.specs.Report.{output_lines, number_following, lines_of_outputs, no_annex, step_lines}
 use Rattle.run_mean.specs.Report.{installed_line}
 use Rattle.run_mean.specs.Report.{cell_lines, layer_lines, member_lines, packet_given, Moment, lines_of, moment_lines}
 use Rattle.run_mean.specs.Report.{first_number}
 use Rattle.run_mean.specs.Text.{chain_text}
 use Rattle.run_mean.specs.World.{Did, taken, refused, absent, shown, member_at}
-use Rattle.order_laws.specs.Said.{output_said, installed_said, step_said, did_said, moment_said}
+use Rattle.order_laws.specs.Said.{output_said, installed_said, did_said, moment_said}
 use Rattle.report_laws.proofs.Clear.{Clear, clear_text, clear_both, decimal_clear, body_clear}
 use Rattle.report_laws.proofs.Lines.{SaysOn, skipped, cast_says, send_says, view_says, out_says}
 use Rattle.report_laws.proofs.Sayable.{Sayable, SayableMember, SayableDid}

@@ -1,16 +1,15 @@
 -- The bytes of a report read back as what its run says.
-use Rattle.std.proofs.Common.{◌≡◌, ℕ, zero, suc, ◌+◌, ◌-◌, ◌==◌, ◌<◌, ◌≤◌, ◌^◌, Bool, true, false, List, [], ◌∷◌, ◌++◌}
-use Rattle.std.proofs.Common.{length, take, refl, sym, ap, subst, ◌∙◌, arith, append_assoc, Option, Some, None, Result}
+use Rattle.std.proofs.Common.{◌≡◌, ℕ, ◌+◌, ◌-◌, ◌==◌, ◌<◌, ◌≤◌, false, List, [], ◌∷◌, ◌++◌}
+use Rattle.std.proofs.Common.{length, take, refl, sym, ap, ◌∙◌, arith, append_assoc, Some, None}
 use Rattle.std.proofs.Common.{Ok, Err}
 use Rattle.std.specs.Prelude.{slice_index, if◌then◌else◌}
-use Rattle.std.specs.List.{AllByRecursion, AllZip, concat, flat_map, slice_split, enumerate_from}
+use Rattle.std.specs.List.{AllByRecursion, AllZip, concat, flat_map, slice_split}
 use Rattle.std.proofs.Math.Seq.{take-append_seam}
 use Rattle.std.proofs.lemmas.List.{append-nil, length-append}
 use Rattle.std.proofs.lemmas.List.Splits.{slice_split_at, slice_split_none}
 use Rattle.msg_core.specs.View.{most_members}
 use Rattle.script_mean.specs.Event.{member_of}
 use Rattle.script_mean.specs.declared.event.ScriptEvent.{ScriptEvent}
-use Rattle.script_mean.specs.declared.script.Script.{Script}
 use Rattle.audit_mean.specs.Finding.{too_large, report_finding, finding_of, least}
 use Rattle.audit_mean.specs.Line.{ReportLine, end, line_said}
 use Rattle.audit_mean.specs.Report.{running, stage_after, report_from}
@@ -25,10 +24,9 @@ use Rattle.chain_laws.specs.Runs.{TypedStack}
 use Rattle.member_laws.specs.Members.{IsGivenEvent, IsChainedWorld}
 use Rattle.member_laws.proofs.Members.{all_of, events_keep_chains, first_world_is_chained}
 use Rattle.member_laws.proofs.Numbered.{plans_are_numbered}
-use Rattle.order_laws.specs.Said.{moment_said, report_said}
-use Rattle.report_laws.specs.ReadsBack.{HasWholeNames, IsGiven, report_bytes, ReportReadsBack, found_in, AuditFinds}
+use Rattle.order_laws.specs.Said.{moment_said}
+use Rattle.report_laws.specs.ReadsBack.{report_bytes, ReportReadsBack, found_in, AuditFinds}
 use Rattle.report_laws.specs.ReadsBack.{KeptIsFound}
-use Rattle.report_laws.proofs.Clear.{Clear}
 use Rattle.report_laws.proofs.Lines.{Says, SaysOn, end_says}
 use Rattle.report_laws.proofs.Moments.{zip_both, moment_says}
 use Rattle.report_laws.proofs.Sayable.{event_says}

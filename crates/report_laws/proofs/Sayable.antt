@@ -1,5 +1,5 @@
 -- What a run puts out can be said: numbers and bodies are in range.
-use Rattle.std.proofs.Common.{◌≡◌, ℕ, zero, suc, Bool, true, false, List, [], ◌∷◌, map, refl, Option, Some, None}
+use Rattle.std.proofs.Common.{◌≡◌, ℕ, Bool, true, false, List, [], refl, Option, Some, None}
 use Rattle.std.specs.Prelude.{◌&&◌, ◌==◌, not, nat_lt, if◌then◌else◌, Result, Ok, Err}
 use Rattle.std.specs.List.{AllByRecursion}
 use Rattle.std.specs.Option.{option_map_or}
@@ -32,7 +32,7 @@ use Rattle.run_mean.specs.Member.{Member, inside, out, Input, cast, send, leave,
 use Rattle.run_mean.specs.Member.{entered_input, Output, deliver_cast, deliver_send, packet, packet_to, nowhere, above}
 use Rattle.run_mean.specs.Member.{below}
 use Rattle.run_mean.specs.Member.{output_of, step_from}
-use Rattle.run_mean.specs.World.{World, Did, taken, refused, absent, shown, member_at, packet_number, happens, here_of}
+use Rattle.run_mean.specs.World.{World, Did, taken, member_at, packet_number, happens, here_of}
 use Rattle.run_mean.specs.World.{stepped_inside, stepped_of, step_happening, given_packet}
 
 -- what an output has that a line says

@@ -1,23 +1,21 @@
 -- Headers, messages and rows as a report writes them are whole: they have no line feed.
-use Rattle.std.proofs.Common.{◌≡◌, ℕ, zero, suc, ◌+◌, ◌-◌, ◌==◌, Bool, true, false, List, [], ◌∷◌, ◌++◌, map, refl}
+use Rattle.std.proofs.Common.{◌≡◌, ℕ, ◌+◌, ◌-◌, ◌==◌, Bool, true, false, List, [], ◌∷◌, ◌++◌, map, refl}
 use Rattle.std.proofs.Common.{arith}
-use Rattle.std.proofs.Common.{Option, Some, None}
-use Rattle.std.specs.Prelude.{◌&&◌, if◌then◌else◌, codes, slice_index_or, option_to_list}
+use Rattle.std.specs.Prelude.{if◌then◌else◌, codes, slice_index_or, option_to_list}
 use Rattle.std.specs.Fmt.{decimal}
 use Rattle.std.specs.List.{AllByRecursion, list_all, join_by, flat_map, enumerate_from}
 use Rattle.std.proofs.lemmas.Bool.{and_parts}
 use Rattle.msg_core.specs.Chain.{Content}
 use Rattle.msg_core.specs.declared.message.Header.{Header}
 use Rattle.layer_mean.specs.declared.run.Row.{Row}
-use Rattle.layer_mean.specs.Tree.{LayerTree, CellTree, Form, numbers, queue, queues, no_layer}
-use Rattle.layer_mean.specs.State.{State, Contents, cell_at, numbers_in, queues_in}
-use Rattle.layer_mean.specs.Visit.{no_state}
+use Rattle.layer_mean.specs.Tree.{LayerTree, Form, numbers, queue, queues, no_layer}
+use Rattle.layer_mean.specs.State.{Contents, numbers_in, queues_in}
 use Rattle.script_mean.specs.EventText.{hex_text}
-use Rattle.chain_laws.proofs.Lists.{each_or, each_append, each_map}
+use Rattle.chain_laws.proofs.Lists.{each_or, each_append}
 use Rattle.run_mean.specs.Text.{layer_number, header_name, header_text, chain_text, message_text, row_text, rows_text}
-use Rattle.run_mean.specs.Lines.{numbers_text, queue_name, cell_values}
+use Rattle.run_mean.specs.Lines.{queue_name, cell_values}
 use Rattle.report_laws.specs.ReadsBack.{is_whole, has_whole_names, HasWholeNames}
-use Rattle.report_laws.proofs.Clear.{Clear, clear_text, clear_both, clear_all, clear_joined, clear_flat, decimal_clear}
+use Rattle.report_laws.proofs.Clear.{Clear, clear_text, clear_both, clear_joined, clear_flat, decimal_clear}
 use Rattle.report_laws.proofs.Clear.{body_clear}
 
 -- the names of a layer, one by one

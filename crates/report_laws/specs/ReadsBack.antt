@@ -1,11 +1,11 @@
 -- The report of a run, read line by line by an audit, says what the definitions say of the run.
-use Rattle.std.specs.Prelude.{◌≡◌, ℕ, ◌==◌, ◌<◌, ◌≤◌, ◌^◌, ◌&&◌, not, Bool, true, false, List, [], length, Result, Ok}
+use Rattle.std.specs.Prelude.{◌≡◌, ℕ, ◌==◌, ◌<◌, ◌≤◌, ◌^◌, ◌&&◌, not, Bool, true, false, List, [], length, Ok}
 use Rattle.std.specs.Prelude.{Err, if◌then◌else◌}
 use Rattle.std.specs.List.{AllByRecursion, list_all, concat, enumerate_from}
 use Rattle.msg_core.specs.View.{most_members}
 use Rattle.script_mean.specs.Event.{member_of}
 use Rattle.script_mean.specs.declared.script.Script.{Script}
-use Rattle.audit_mean.specs.Finding.{AuditFault, too_large, audit_of, breaches, finding_of, least}
+use Rattle.audit_mean.specs.Finding.{too_large, audit_of, breaches, finding_of, least}
 use Rattle.audit_mean.specs.Report.{running, report_from}
 use Rattle.audit_mean.specs.Text.{is_too_large, lines_of}
 use Rattle.audit_mean.specs.declared.law.Finding.{Finding}

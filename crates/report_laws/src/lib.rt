@@ -1,5 +1,6 @@
-//! The report of a run reads back, line by line, as what the definitions say of the run, for every stack: so a law that
-//! is proved of a run is found by an audit of its report. Each law is the contract of a function that does nothing.
+//! The report of a run reads back, line by line, as what the definitions say of the run, for every stack: so a law
+//! that is proved of a run is found by an audit of its report. Each law is the contract of a function that does
+//! nothing.
 #![tactic(auto)]
 
 ghost use Rattle.report_laws.specs.ReadsBack.{AuditFinds, KeptIsFound, ReportReadsBack};

@@ -1,0 +1,5 @@
+use Rattle.fifo_laws.proofs.Law.{audit_holds}
+use Rattle.fifo_laws.proofs.audit_holds.Goals as goal
+
+pub returns : goal.returns
+returns c = audit_holds

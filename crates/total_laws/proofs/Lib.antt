@@ -1,0 +1,5 @@
+pub mod Visits
+pub mod Walks
+pub mod Orders
+pub mod Kept
+pub mod Law
