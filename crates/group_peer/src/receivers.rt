@@ -40,7 +40,6 @@ fn bit_of(id: u8) -> u32
 }
 
 /// Those to whom a packet goes that a member sends in a view, as ids, each a bit.
-#[tactic(auto, using(crate::proofs::Others::member_below))]
 pub(crate) fn receivers(view: View, from: u8, dest: Dest) -> u32
     ensures { result ≡ bits_of (receivers from view dest) }
 {

@@ -16,7 +16,6 @@ use Rattle.peer_handle.specs.Ownership.{Kept}
 use Rattle.peer_handle.specs.declared.answer.Opening.{Opening}
 use Rattle.peer_handle.specs.declared.answer.Opening.TheVariants as opening
 use Rattle.peer_handle.specs.declared.fault.ToldFault.{ToldFault}
-use Rattle.peer_handle.specs.declared.machine.Machine.{Machine}
 use Rattle.peer_handle.specs.declared.order.Order.{Order}
 
 -- Whether a group may have so many members, and has one of this id.
@@ -94,11 +93,11 @@ abbrev pub error_opening : OpenError → Opening
 error_opening TooLarge = opening.TooLarge
 error_opening Memory = opening.NoMemory
 
--- The member that is wanted is made, over the stack that the bytes of its file mean; or it isn't, for this reason.
-abbrev pub Makes : Wanted → List LayerTree → Result Machine OpenError → Type 0
-Makes w stack (Ok machine) = IsOpen w machine.peer
-Makes w stack (Err TooLarge) = IsTooLarge w
-Makes w stack (Err Memory) = Unit {0}
+-- The member that is wanted is made, or it isn't, for this reason.
+abbrev pub Makes : Wanted → Result Peer OpenError → Type 0
+Makes w (Ok peer) = IsOpen w peer
+Makes w (Err TooLarge) = IsTooLarge w
+Makes w (Err Memory) = Unit {0}
 
 -- A handle that had no member has the one that is wanted, or none, for this reason.
 abbrev pub OpensStack : Wanted → (new : Kept) → Opening → Type 0

@@ -48,37 +48,41 @@ fn error_opening(error: OpenError) -> Opening
 
 /// Opens a member over a stack that a file means.
 #[tactic(auto, using(crate::proofs::Rules::of_make))]
-fn make(alloc: Global, order: Order<'_>, stack: Stack) -> Result<Box<Machine>, OpenError>
+fn make(alloc: Global, order: Order<'_>, stack: Stack) -> Result<Peer, OpenError>
     requires means { Means order.layers.now (stack_tree stack) }
     requires possible { is_possible order.line.members order.id ≡ true }
-    ensures { Makes (wanted order.entry) (stack_tree stack) result }
+    ensures { Makes (wanted order.entry) result }
 {
     let mode = mode_for(order.bypass);
-    let peer = Peer::open(alloc, mode, stack, order.line, order.id)?;
-    match Box::new(alloc, Machine { peer }) {
-        Ok(machine) => Ok(machine),
-        Err(_) => Err(OpenError::Memory),
+    match Peer::open(alloc, mode, stack, order.line, order.id) {
+        Ok(peer) => Ok(peer),
+        Err(error) => Err(error),
     }
 }
 
 /// Opens a member over a stack that a file means, behind a handle that has none.
+#[tactic(auto, using(crate::proofs::Opens::none_opened))]
 fn open_over(alloc: Global, h: &mut Handle, order: Order<'_>, stack: Stack) -> Opening
     requires means { Means order.layers.now (stack_tree stack) }
     requires possible { is_possible order.line.members order.id ≡ true }
     requires empty { h.old.seal.value ≡ None }
     ensures { OpensStack (wanted order.entry) h.new.seal.value result }
 {
-    match make(alloc, order, stack) {
+    let peer = match make(alloc, order, stack) {
+        Ok(peer) => peer,
+        Err(error) => return error_opening(error),
+    };
+    match Box::new(alloc, Machine { peer }) {
         Ok(machine) => {
             *h = Handle::of(machine);
             Opening::Opened
         }
-        Err(error) => error_opening(error),
+        Err(_) => Opening::NoMemory,
     }
 }
 
 /// Tells for which cause a file of these bytes is refused.
-#[tactic(auto, using(crate::proofs::Opens::refused))]
+#[tactic(auto, using(crate::proofs::Opens::is_refused))]
 fn refuse(
     alloc: Global,
     _text: &[u8],
