@@ -1,7 +1,7 @@
 -- Which events are due, and by which choices.
 use Rattle.std.proofs.Common.{◌≡◌, ℕ, zero, suc, ◌+◌, ◌<◌, ◌≤◌, ◌⊎◌, inl, inr, Bool, true, false, List, [], ◌∷◌, ◌++◌}
 use Rattle.std.proofs.Common.{length}
-use Rattle.std.proofs.Common.{map, take, filter, refl, sym, ap, subst, ◌∙◌, arith, Option, Some, None, Result, Ok, Err}
+use Rattle.std.proofs.Common.{take, filter, refl, sym, ap, subst, ◌∙◌, arith, Option, Some, None, Result, Ok, Err}
 use Rattle.std.specs.Prelude.{slice_get, slice_index_or, count_by, nat_lt, ◌&&◌, ◌==◌}
 use Rattle.std.specs.Option.{unwrap_or}
 use Rattle.std.specs.declared.alloc.AllocError.{AllocError}
@@ -20,9 +20,9 @@ use Rattle.script_mean.specs.declared.event.ScriptEvent.TheVariants as script
 use Rattle.family_mean.specs.Family.{Family, IsDue, IsTaken, MayCome, MayFollow, same_kind, gives, world_of}
 use Rattle.family_search.specs.declared.choice.Choice.{Choice}
 use Rattle.family_search.specs.declared.choice.Choice.TheVariants.{Act, Give}
-use Rattle.family_search.specs.Trying.{event_in, event_of, events_of, IsIn, AreNext, AreAnswered}
+use Rattle.family_search.specs.Trying.{event_in, event_of, events_of, IsIn, AreAnswered}
 use Rattle.family_search.specs.Coming.{act_due, due_in, due_by, rank_of, done_of, times_of, AnswersTakes, AnswersMay}
-use Rattle.family_search.specs.Coming.{IsAnswered, IsChoice, HaveActs, HaveGives, AreAll, HaveGiven, Extends, AreGiven}
+use Rattle.family_search.specs.Coming.{IsAnswered, IsChoice, HaveActs, HaveGives, AreAll, AreGiven}
 use Rattle.family_search.specs.Coming.{IsLeft, AreSorted, AreSent, PutsIf}
 use Rattle.family_search.proofs.Ranks.{at_rank, from_rank, count-map}
 use Rattle.family_search.proofs.Tried.{in_front, is_last, last_or_front}

@@ -1,15 +1,15 @@
 -- Scripts that go on by one event, and by all that may come.
-use Rattle.std.proofs.Common.{◌≡◌, ℕ, zero, suc, ◌+◌, ◌-◌, ◌<◌, ◌≤◌, ◌⊎◌, inl, inr, List, [], ◌∷◌, ◌++◌, length, map}
+use Rattle.std.proofs.Common.{◌≡◌, ℕ, zero, suc, ◌+◌, ◌-◌, ◌<◌, ◌≤◌, ◌⊎◌, inl, inr, List, [], ◌∷◌, ◌++◌, length}
 use Rattle.std.proofs.Common.{refl}
 use Rattle.std.proofs.Common.{sym, ap, subst, ◌∙◌, arith, append_assoc}
 use Rattle.std.proofs.lemmas.List.{append-nil, length-map, map-append}
 use Rattle.script_mean.specs.declared.event.ScriptEvent.{ScriptEvent}
-use Rattle.family_mean.specs.Family.{Family, MayCome, MayFollow, Keeps, IsOf, IsShortestBreach}
+use Rattle.family_mean.specs.Family.{Family, MayCome, MayFollow, Keeps, IsShortestBreach}
 use Rattle.family_search.specs.declared.choice.Choice.{Choice}
 use Rattle.std.proofs.Common.{Bool, true, false, Ok, take}
 use Rattle.std.proofs.Math.Seq.{take-append_seam}
 use Rattle.family_search.specs.Trying.{event_of, events_of, IsIn, AreNext, AllGoingOnKeep, Remain, ShorterKeep}
-use Rattle.family_search.specs.Trying.{Goes, Grows, IsKept, IsFound, Tries, AreAnswered, IsSearched, MayStop, Searches}
+use Rattle.family_search.specs.Trying.{Goes, Grows, IsKept, IsFound, Tries, AreAnswered, MayStop, Searches}
 use Rattle.family_search.specs.Trying.{StopsAt}
 use Rattle.family_search.specs.declared.found.Found.{Found}
 use Rattle.family_search.specs.declared.found.Found.TheVariants.{Holds, Breach, HoldsTo}
@@ -200,7 +200,7 @@ shortest f n f' past f'' found keep grows is tries few =
     let found_is = found_of f' n past f'' found keep is tries in (
       found_is.stays ∙ grows.stays,
       shortest_of f n past f'' found grows.none grows.keep
-      (subst (λ g. IsFound g n past f'' found) grows.stays found_is) few,
+          (subst (λ g. IsFound g n past f'' found) grows.stays found_is) few,
     )
 
 -- Where a search stops at a length, all shorter scripts were tried.

@@ -1,11 +1,11 @@
 -- What it is to find out which events may come next.
-use Rattle.std.specs.Prelude.{◌≡◌, ℕ, ◌+◌, ◌<◌, ◌≤◌, ◌⊎◌, ◌==◌, ◌&&◌, Bool, true, false, List, [], ◌∷◌, ◌++◌, length}
+use Rattle.std.specs.Prelude.{◌≡◌, ℕ, ◌+◌, ◌<◌, ◌⊎◌, ◌==◌, ◌&&◌, Bool, true, false, List, [], ◌∷◌, ◌++◌, length}
 use Rattle.std.specs.Prelude.{take}
 use Rattle.std.specs.Prelude.{count_by, nat_lt, Result, Ok, Err}
 use Rattle.script_mean.specs.Event.{member_of}
 use Rattle.std.specs.declared.alloc.AllocError.{AllocError}
 use Rattle.script_mean.specs.declared.event.ScriptEvent.{ScriptEvent}
-use Rattle.run_mean.specs.World.{Did, happens}
+use Rattle.run_mean.specs.World.{happens}
 use Rattle.stack_mean.specs.Plans.{plans_of}
 use Rattle.family_mean.specs.Family.{Family, IsTaken, MayCome, MayFollow, world_of, same_kind, gives}
 use Rattle.family_search.specs.Trying.{IsIn, event_in, event_of, events_of}

@@ -32,12 +32,7 @@ pub trait Trial {
         ensures { AnswersSent (family self.old) past.now (family self.new) result };
 
     /// Whether a member takes an event after these.
-    fn takes(
-        &mut self,
-        alloc: Global,
-        past: &[Choice],
-        choice: Choice,
-    ) -> Result<bool, AllocError>
+    fn takes(&mut self, alloc: Global, past: &[Choice], choice: Choice) -> Result<bool, AllocError>
         requires { MayFollow (family self.old) [] (events_of (family self.old) past.now) }
         ensures { AnswersTakes (family self.old) past.now choice (family self.new) result };
 

@@ -6,6 +6,7 @@ ghost use Rattle.fifo_laws.specs.Layer.{TextMeans};
 ghost use Rattle.fifo_laws.specs.Law.{AuditHolds, DeliversFirst, IsTyped, SenderHolds};
 ghost use Rattle.fifo_laws.specs.Protocol.{FifoIsProved};
 ghost use Rattle.fifo_laws.specs.Steps.{CastComesUp, CastGoesDown, StepsAre};
+ghost use Rattle.fifo_laws.specs.Sample.{SampleIsFair, SampleReports};
 
 /// The text of the file means the stack.
 pub fn text_means()
@@ -50,4 +51,14 @@ pub fn delivers_first()
 /// An audit of the report of such a script says that it holds.
 pub fn audit_holds()
     ensures { AuditHolds }
+{}
+
+/// A script with deliveries meets the premises.
+pub fn sample_is_fair()
+    ensures { SampleIsFair }
+{}
+
+/// Its report, by evaluation.
+pub fn sample_reports()
+    ensures { SampleReports }
 {}

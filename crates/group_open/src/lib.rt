@@ -4,14 +4,12 @@
 
 mod codes;
 mod examining;
-mod one;
 mod opening;
 mod preparing;
 mod room;
 mod run;
 
 pub use examining::open_examined;
-pub use one::open_member;
 pub use opening::{open, open_with};
 pub use room::has_room;
-pub use run::{Examination, OpenMember, Opened};
+pub use run::{Examination, Opened};

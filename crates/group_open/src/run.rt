@@ -1,7 +1,6 @@
 //! Groups that begin, and what they are made of.
 
 use code_table::Codes;
-use group_member::Member;
 use group_world::{Examined, World};
 use live_layer::Maker;
 use report_lines::NamedStack;
@@ -48,11 +47,4 @@ pub struct Examination {
     pub entries: Rc<EntryShapes>,
     pub outputs: Outputs,
     pub group: Examined,
-}
-
-/// A member that begins alone, with the plans of its stack, and room for the outputs of a step.
-pub struct OpenMember {
-    pub plans: Rc<Plans>,
-    pub outputs: Outputs,
-    pub member: Member,
 }

@@ -1,4 +1,3 @@
-use Rattle.std.proofs.Common.{arith}
 use Rattle.family_search.proofs.Dues.{acts_more, no_gives, all_more}
 use Rattle.family_search.proofs.coming.candidates.Goals as goal
 

@@ -1,4 +1,4 @@
-use Rattle.std.proofs.Common.{arith, rules, ap, sym, ◌∙◌, length, ◌≡◌, ℕ}
+use Rattle.std.proofs.Common.{arith, rules, ap, length, ◌≡◌}
 use Rattle.family_search.proofs.Tried.{begins, may_go_on, goes_on, all_gone}
 use Rattle.family_search.proofs.trying.+all_keep.Goals as goal
 

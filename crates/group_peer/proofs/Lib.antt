@@ -1,5 +1,0 @@
-mod Others
-mod Rules
-mod Short
-mod Stepped
-mod Tells

@@ -1,4 +1,0 @@
-mod AsBox
-mod Opens
-mod Rules
-mod Sound
