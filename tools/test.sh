@@ -14,7 +14,7 @@ RUNCHART=${RUNCHART:+$(readlink -f "$RUNCHART")}
 STACKHUNT=${STACKHUNT:+$(readlink -f "$STACKHUNT")}
 export STACKC LAYERFMT RUNCHART STACKHUNT PYTHONDONTWRITEBYTECODE=1
 failed=0
-for test in launcher table statuses refusals runs fragments datagrams nodes packs traces terminal sentences script grammars journals tutorial library layouts charts hunts layers store crates house differences; do
+for test in launcher table statuses refusals runs fragments datagrams nodes packs traces terminal sentences script grammars journals tutorial layouts charts hunts layers crates house differences; do
   python3 "$(dirname "$(readlink -f "$0")")/tests/$test.py" || failed=1
 done
 exit "$failed"
