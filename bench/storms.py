@@ -9,7 +9,7 @@ fifth lost, some repeated; floods of casts; a minority crashes, groups are parte
 Of each storm it is asked that
 
 - lost: each cast of a member that isn't out was delivered at home or handed back;   both: and not both
-- twice, order: nobody delivers a cast twice, or a member's casts in another order than theirs
+- twice, order, other: nobody delivers a cast twice, a member's casts in another order than theirs, or what nobody cast
 - total, same: members of a view deliver one list, and those that go on together all of it
 - back: what is handed back is delivered by nobody who goes on
 - chain, split: one mask for each count of views, and one view in the end
@@ -156,6 +156,9 @@ class Storm:
                     self.seen[me] = []
 
     def deliver(self, me, peer, body, view):
+        if len(body) != 4 or body not in self.made[body[0]]:
+            self.wrong.add("other")
+            return
         if body in self.seen[me]:
             self.wrong.add("twice")
         earlier = next((other for other in reversed(self.seen[me]) if other[0] == body[0]), None)

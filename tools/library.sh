@@ -100,6 +100,9 @@ object_of() {
 # Not proved: kept until code changes.
 of_unproved() {
   local kept="$top/build/unproved/library" folder="$top/build/unproved/library.new"
+  mkdir -p "$top/build"
+  exec 9>"$top/build/library.lock"
+  flock 9
   if ! is_fresh "$kept/begun" "$top"/crates/*/src "$top/crates.txt" "$top/include" "$top/tools/library.sh"; then
     rm -rf "$folder"
     mkdir -p "$folder"

@@ -174,18 +174,22 @@ def shown(made):
 
 
 def counters(made, folder):
-    """Three counters: they end alike, and all that each added is in; so do two where the first of three is killed."""
+    """Three counters end alike, and all that each added is in; so do two where the first of three is killed. A busy machine may part a group, so it is tried again."""
     for killed in (None, 0):
-        ports = [str(port) for port in free_ports(3)]
-        words = lambda me: [sys.executable, TOP / "examples" / "counter.py", str(me), "3", *ports]
-        processes = [subprocess.Popen(words(me), stdout=subprocess.PIPE, env=with_package(folder)) for me in range(3)]
-        if killed is not None:
-            time.sleep(1.5)
-            processes[killed].send_signal(signal.SIGKILL)
-        ends = [process.communicate(timeout=120)[0].decode().splitlines() for me, process in enumerate(processes)]
-        ends = [re.findall(r"\d+", end[-1]) for me, end in enumerate(ends) if me != killed]
-        made.compare(f"counters, {killed} killed: alike", len({counter for counter, _, _ in ends}), 1)
-        made.compare(f"counters, {killed} killed: all are in", [mine for _, mine, _ in ends], [asked for _, _, asked in ends])
+        ends = next((ends for ends in (count(folder, killed) for _ in range(3)) if len({counter for counter, _, _ in ends}) == 1), [])
+        made.compare(f"counters, {killed} killed: alike, with all additions", [mine == asked for _, mine, asked in ends], [True] * (3 if killed is None else 2))
+
+
+def count(folder, killed):
+    """What the counters of three processes end with: the counter, how many additions of the process are in it, and how many it wanted."""
+    ports = [str(port) for port in free_ports(3)]
+    words = lambda me: [sys.executable, TOP / "examples" / "counter.py", str(me), "3", *ports]
+    processes = [subprocess.Popen(words(me), stdout=subprocess.PIPE, env=with_package(folder)) for me in range(3)]
+    if killed is not None:
+        time.sleep(1.5)
+        processes[killed].send_signal(signal.SIGKILL)
+    ends = [process.communicate(timeout=120)[0].decode().splitlines() for process in processes]
+    return [re.findall(r"\d+", end[-1]) for me, end in enumerate(ends) if me != killed]
 
 
 def judged(made, folder, place):

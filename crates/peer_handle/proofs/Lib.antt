@@ -2,3 +2,4 @@ mod AsBox
 mod Opens
 mod Rules
 mod Sound
+mod Texts

@@ -1,5 +1,5 @@
 -- Why a layer file is refused, in numbers and in words.
-use Rattle.std.specs.Prelude.{◌≡◌, ℕ, Bool, true, false, List, [], ◌++◌, codes, length, take, drop}
+use Rattle.std.specs.Prelude.{◌≡◌, ℕ, Bool, true, false, List, ◌++◌, codes, length, take, drop}
 use Rattle.layer_words.specs.declared.places.At.{At}
 use Rattle.end_mean.specs.Status.{FileFault, too_large, bad_token, unexpected, unknown, twice, over_limit, wrong_kind}
 use Rattle.end_mean.specs.Status.{arity, direction, header, initial, cycle, too_many, too_many_joins, file_cause}
@@ -36,7 +36,7 @@ fault_of too_many_joins n = fault_with 14 0 0 n
 abbrev pub sentence_of : FileFault → List ℕ
 sentence_of fault = codes "file: " ++ file_cause fault
 
--- What the judge of files answers, in numbers and in words; want of memory is told by no such numbers.
+-- What the judge of files answers, in numbers and in words; want of memory has no cause.
 abbrev pub error_fault : FileError → (n : ℕ) → ToldFault
 error_fault file.TooLarge n = fault_of too_large n
 error_fault (file.BadToken at) n = fault_of (bad_token at) n
@@ -69,7 +69,7 @@ error_sentence (file.Initial at) = sentence_of (initial at)
 error_sentence (file.Cycle place kind) = sentence_of (cycle place kind)
 error_sentence (file.TooMany weight) = sentence_of (too_many weight)
 error_sentence file.TooManyJoins = sentence_of too_many_joins
-error_sentence file.Memory = []
+error_sentence file.Memory = codes "no memory"
 
 -- Whether an answer of the judge of files is a cause for which a file is refused.
 abbrev pub is_cause : FileError → Bool
