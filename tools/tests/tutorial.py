@@ -13,8 +13,9 @@ from journals import free_ports
 from tree import TOP
 
 PAGE = os.path.join(TOP, "docs", "TUTORIAL.md")
-HUNTS = os.environ.get("STACKHUNT", "")
+BESIDE = {"stackhunt": os.environ.get("STACKHUNT", ""), "stackcheck": os.environ.get("STACKCHECK", "")}
 HUNTED = re.compile(r"hasty|patient")    # files that a hunt writes, or is made over
+CHECKED = re.compile(r"stackcheck")
 FENCE = re.compile(r"^```([a-z]*)(?: (\S+))?\n(.*?)^```$", re.M | re.S)
 
 
@@ -42,14 +43,20 @@ def with_free_ports(text):
     return text
 
 
+def can_run(command):
+    """Whether the programs that a command needs are there."""
+    return (BESIDE["stackhunt"] or not HUNTED.search(command)) and (BESIDE["stackcheck"] or not CHECKED.search(command))
+
+
 def main():
     with open(PAGE, encoding="utf-8") as file:
         page = file.read()
     files, tried, wrong, filled, at = 0, 0, 0, [], 0
     with tempfile.TemporaryDirectory(prefix="stackc-") as folder:
         os.symlink(os.environ["STACKC"], os.path.join(folder, "stackc"))
-        if HUNTS:
-            os.symlink(HUNTS, os.path.join(folder, "stackhunt"))
+        for name, program in BESIDE.items():
+            if program:
+                os.symlink(program, os.path.join(folder, name))
         for fence in FENCE.finditer(page):
             language, name, body = fence.groups()
             filled.append(page[at:fence.start()])
@@ -62,7 +69,7 @@ def main():
                 continue
             lines = []
             for command, wanted in commands(body):
-                if not HUNTS and HUNTED.search(command):
+                if not can_run(command):
                     lines += [f"$ {command}", *wanted]
                     continue
                 got = run(command, folder)

@@ -1,0 +1,4 @@
+mod Answered
+mod Ran
+mod Fetched
+mod Through

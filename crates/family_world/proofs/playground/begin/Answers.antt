@@ -1,0 +1,6 @@
+use Rattle.family_world.proofs.Kept.{begun_then}
+use Rattle.family_world.proofs.playground.begin.Goals as goal
+
+pub returns : goal.returns
+returns c =
+    begun_then c.args.acts.now c.args.play.now _ _ c.begin_anew-2.result c.restart.ensures c.begin_anew-2.ensures
