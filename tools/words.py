@@ -15,12 +15,12 @@ class NoJob(Exception):
 
 
 class Job:
-    """A job, or a program that has one alone: the words at its places, its options with the words for their values, those of them that it needs, those that it
-    doesn't take together, and those whose numbers don't fall."""
+    """A job, or a program that has one alone: the words at its places, its options with the words for their values, second values by the option before them,
+    the options that it needs, those that it doesn't take together, and those whose numbers don't fall."""
 
     def __init__(self, program, name, form, says):
         self.program, self.name, self.form, self.says = program, name, form, says
-        self.places, self.options, self.needed, self.apart, self.ascend = [], {}, [], [], []
+        self.places, self.options, self.seconds, self.needed, self.apart, self.ascend = [], {}, {}, [], [], []
         words = form.split()
         while words:
             word = words.pop(0)
@@ -28,7 +28,11 @@ class Job:
                 self.places.append(word)
                 continue
             option = word.strip("[]")
-            self.options[option] = None if word.endswith("]") else words.pop(0).rstrip("]")
+            self.options[option] = None if word.endswith("]") else words.pop(0)
+            if self.options[option] and not self.options[option].endswith("]") and word.startswith("["):
+                self.seconds[option] = words.pop(0).rstrip("]")
+            elif self.options[option]:
+                self.options[option] = self.options[option].rstrip("]")
             if not word.startswith("["):
                 self.needed.append(option)
 
@@ -97,10 +101,11 @@ class Table:
         for option in given:
             if option not in job.options:
                 raise NoJob(f"`{job.name}` has no `{option}`")
-        if len(places) > len(job.places):
-            raise NoJob(f"`{places[len(job.places)]}` is a word too many")
-        if len(places) < len(job.places):
-            name = job.places[len(places)]
+        names = job.places + [second for option, second in job.seconds.items() if option in given]
+        if len(places) > len(names):
+            raise NoJob(f"`{places[len(names)]}` is a word too many")
+        if len(places) < len(names):
+            name = names[len(places)]
             raise NoJob(f"{name} is missing: {self.words[name][1]}")
         for option in job.needed:
             if option not in given:
@@ -108,6 +113,8 @@ class Table:
         for option, value in given.items():
             if job.options[option]:
                 fits(option, value, self.words[job.options[option]][0])
+        for name, value in zip(names[len(job.places):], places[len(job.places):]):
+            fits(name, value, self.words[name][0])
         for option, other, says in job.apart:
             name, _, value = other.partition("=")
             if option in given and given.get(name) == value:
@@ -115,7 +122,7 @@ class Table:
         for low, high, says in job.ascend:
             if low in given and high in given and int(given[low]) > int(given[high]):
                 raise NoJob(f"`{low} {given[low]}` is over `{high} {given[high]}`: {says}")
-        return job, dict(zip(job.places, places)), given
+        return job, dict(zip(names, places)), given
 
     def fault(self, words):
         """Why words are no job; None where they are one."""

@@ -36,7 +36,7 @@ _stackc() {
   'stackc node') options="--turns --me --run --patience" valued="--turns --me --run --patience" kinds="layers plan" ;;
   'stackc audit') options="--law" valued="--law" kinds="report,journal" ;;
   'layerfmt') options="" valued="" kinds="layers" ;;
-  'runchart') options="--from --to" valued="--from --to" kinds="report,journal" ;;
+  'runchart') options="--from --to --breach" valued="--from --to --breach" kinds="report,journal" ;;
   'stackhunt') options="--law --members --events --runs --seed --seconds" valued="--law --members --events --runs --seed --seconds" kinds="layers" ;;
   *) return ;;
   esac

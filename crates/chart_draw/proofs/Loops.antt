@@ -1,7 +1,8 @@
 -- The steps of loops over the bytes of a text, the lines of a report and the lines of a picture.
 use Rattle.std.proofs.Common.{◌≡◌, refl, sym, ap, ◌∙◌, ℕ, suc, ◌+◌, ◌-◌, ◌<◌, ◌≤◌, List, [], ◌∷◌, ◌++◌, length, take}
 use Rattle.std.proofs.Common.{drop, get_or, append_assoc, append-nil, length-append, arith, Bool, true, false}
-use Rattle.std.specs.Prelude.{◌==◌, map, min, max, slice_index, if◌then◌else◌}
+use Rattle.std.specs.Prelude.{◌==◌, ◌||◌, map, min, max, slice_index, if◌then◌else◌}
+use Rattle.std.specs.List.{flat_map, list_any}
 use Rattle.std.proofs.lemmas.List.{take_more, map-append, length-map, length-take, take_min, take_rest, drop_min}
 use Rattle.std.proofs.lemmas.List.{take-map, drop-map}
 use Rattle.std.proofs.lemmas.List.Sums.{count_by-le-length, fold-append}
@@ -10,8 +11,11 @@ use Rattle.std.proofs.lemmas.Grind.{flat_map-append}
 use Rattle.audit_mean.specs.Text.{lines_of, unended}
 use Rattle.chart_mean.specs.Escape.{escaped, escaped_byte}
 use Rattle.chart_mean.specs.Place as spec
-use Rattle.chart_mean.specs.Place.{line_at, lines_from, rows, rows_to}
-use Rattle.chart_draw.specs.Reading.{line_shown, text_shown, texts_shown}
+use Rattle.chart_mean.specs.Label.{header_text}
+use Rattle.chart_mean.specs.Mark.{are_told}
+use Rattle.chart_mean.specs.Says.{is_reception}
+use Rattle.chart_mean.specs.Place.{line_at, lines_from, rows, rows_to, first_x, x_next, x_after, width_of}
+use Rattle.chart_draw.specs.Reading.{line_shown, says_shown, text_shown, texts_shown}
 use Rattle.chart_draw.specs.declared.lines.DrawnLine.{DrawnLine}
 use denote.Ref.{Bor}
 
@@ -21,6 +25,14 @@ pub escaped_more : (text : List ℕ) (i d : ℕ) → i < length text → escaped
 escaped_more text i d lt =
     ap escaped (take_more text i d lt) ∙ flat_map-append escaped_byte (take i text) (get_or text i d ∷ [])
     ∙ ap (λ last. escaped (take i text) ++ last) (append-nil (escaped_byte (get_or text i d)))
+
+-- one more header: what was put of those before it, and what is to be put of it and those after it
+pub header_more : (text longer header : List ℕ) (following : List (List ℕ)) (whole : List ℕ) →
+    longer ≡ text ++ header_text header → text ++ flat_map header_text (header ∷ following) ≡ whole →
+    longer ++ flat_map header_text following ≡ whole
+header_more text longer header following whole put is =
+    ap (λ t. t ++ flat_map header_text following) put
+    ∙ append_assoc text (header_text header) (flat_map header_text following) ∙ is
 
 -- one more of the lines of a text
 pub line_more : (front : List (Bor (List ℕ))) (line : Bor (List ℕ)) (following whole : List (List ℕ)) →
@@ -64,41 +76,74 @@ ranged first last texts end start is starts =
     ∙ sym (drop-map text_shown (first - 1) (take last texts))
     ∙ ap (drop (first - 1)) (sym (take-map text_shown last texts))
 
-lines_more : (first place : ℕ) (texts : List (List ℕ)) (text : List ℕ) →
-    lines_from first place (texts ++ text ∷ []) ≡ lines_from first place texts ++
-    line_at first (place + length texts) text ∷ []
-lines_more first place [] text = let at : place ≡ place + 0 = omega arith in ap (λ p. line_at first p text ∷ []) at
-lines_more first place (one ∷ texts) text =
+lines_more : (first place x : ℕ) (texts : List (List ℕ)) (text : List ℕ) →
+    lines_from first place x (texts ++ text ∷ []) ≡ lines_from first place x texts ++
+    line_at first (place + length texts) (x_after x texts) text ∷ []
+lines_more first place x [] text = let at : place ≡ place + 0 = omega arith in ap (λ p. line_at first p x text ∷ []) at
+lines_more first place x (one ∷ texts) text =
     let at : place + 1 + length texts ≡ place + suc (length texts) = omega arith in
-    ap (λ more. line_at first place one ∷ more)
-    (lines_more first (place + 1) texts text ∙ ap (λ p. lines_from first (place + 1) texts ++ line_at first p text ∷ [])
-    at)
+    ap (λ more. line_at first place x one ∷ more)
+    (lines_more first (place + 1) (x_next x one) texts text
+    ∙ ap (λ p. lines_from first (place + 1) (x_next x one) texts ++
+    line_at first p (x_after (x_next x one) texts) text ∷ []) at)
 
 -- one more line of a picture
 pub placed_more : (first i : ℕ) (texts : List (Bor (List ℕ))) (d : Bor (List ℕ)) → i < length texts →
-    lines_from first 0 (texts_shown (take (i + 1) texts)) ≡ lines_from first 0 (texts_shown (take i texts)) ++
-    line_at first i (get_or texts i d).now ∷ []
+    lines_from first 0 first_x (texts_shown (take (i + 1) texts))
+    ≡ lines_from first 0 first_x (texts_shown (take i texts))
+    ++ line_at first i (x_after first_x (texts_shown (take i texts))) (get_or texts i d).now ∷ []
 placed_more first i texts d lt =
     let front = texts_shown (take i texts) in
     let count : 0 + length front ≡ i = omega (arith, lt, length-map (take i texts) text_shown, length-take i texts) in
-    ap (λ ts. lines_from first 0 (texts_shown ts)) (take_more texts i d lt)
-    ∙ ap (lines_from first 0) (map-append text_shown (take i texts) (get_or texts i d ∷ []))
-    ∙ lines_more first 0 front (get_or texts i d).now
-    ∙ ap (λ p. lines_from first 0 front ++ line_at first p (get_or texts i d).now ∷ []) count
+    ap (λ ts. lines_from first 0 first_x (texts_shown ts)) (take_more texts i d lt)
+    ∙ ap (lines_from first 0 first_x) (map-append text_shown (take i texts) (get_or texts i d ∷ []))
+    ∙ lines_more first 0 first_x front (get_or texts i d).now
+    ∙ ap (λ p. lines_from first 0 first_x front ++ line_at first p (x_after first_x front) (get_or texts i d).now ∷ [])
+    count
+
+-- where the line after one more stands
+pub x_more : (i : ℕ) (texts : List (Bor (List ℕ))) (d : Bor (List ℕ)) → i < length texts →
+    x_after first_x (texts_shown (take (i + 1) texts)) ≡
+    x_next (x_after first_x (texts_shown (take i texts))) (get_or texts i d).now
+x_more i texts d lt =
+    ap (λ ts. x_after first_x (texts_shown ts)) (take_more texts i d lt)
+    ∙ ap (x_after first_x) (map-append text_shown (take i texts) (get_or texts i d ∷ []))
+    ∙ fold-append x_next first_x (texts_shown (take i texts)) ((get_or texts i d).now ∷ [])
+
+-- these lines are those of the first texts, and the next one stands here
+pub record ArePlaced (first i : ℕ) (texts : List (Bor (List ℕ))) (lines : List DrawnLine) (end : ℕ) : Type 0 where
+  pub shown : map line_shown lines ≡ lines_from first 0 first_x (texts_shown (take i texts))
+  pub count : length lines ≡ i
+  pub next : end ≡ x_after first_x (texts_shown (take i texts))
+  pub inside : end ≤ 52 + 378 * i
 
 pub placed_on : (first i : ℕ) (texts : List (Bor (List ℕ))) (d : Bor (List ℕ)) (lines more : List DrawnLine)
-    (line : DrawnLine) →
-    i < length texts →
-    map line_shown lines ≡ lines_from first 0 (texts_shown (take i texts)) → length lines ≡ i →
-    more ≡ lines ++ line ∷ [] →
-    line_shown line ≡ line_at first i (get_or texts i d).now →
-    (map line_shown more ≡ lines_from first 0 (texts_shown (take (i + 1) texts))) × (length more ≡ i + 1)
-placed_on first i texts d lines more line lt are count is shown = (
-  ap (map line_shown) is ∙ map-append line_shown lines (line ∷ []) ∙ ap (λ front. front ++ line_shown line ∷ []) are
-      ∙ ap (λ last. lines_from first 0 (texts_shown (take i texts)) ++ last ∷ []) shown ∙
-      sym (placed_more first i texts d lt),
-  let all = ap length is in let joined = length-append lines (line ∷ []) in omega (arith, all, joined, count),
-)
+    (line : DrawnLine) (x width : ℕ) →
+    i < length texts → ArePlaced first i texts lines x → more ≡ lines ++ line ∷ [] →
+    line_shown line ≡ line_at first i x (get_or texts i d).now → width ≡ width_of (says_shown line.says) →
+    width ≤ 378 →
+    ArePlaced first (i + 1) texts more (x + width)
+placed_on first i texts d lines more line x width lt are is shown wide few =
+    let text = (get_or texts i d).now in
+    let all = ap length is in
+    let joined = length-append lines (line ∷ []) in
+    let count = are.count in
+    let inside = are.inside in
+    record {
+      shown = ap (map line_shown) is ∙ map-append line_shown lines (line ∷ [])
+          ∙ ap (λ front. front ++ line_shown line ∷ []) are.shown
+          ∙ ap (λ last. lines_from first 0 first_x (texts_shown (take i texts)) ++ last ∷ []) shown
+          ∙ ap (λ at. lines_from first 0 first_x (texts_shown (take i texts)) ++ line_at first i at text ∷ []) are.next
+          ∙ sym (placed_more first i texts d lt);
+      count = omega (arith, all, joined, count);
+      next = ap (λ w. x + w) wide ∙ ap (λ said. x + width_of said.says) shown ∙ ap (λ at. x_next at text) are.next
+          ∙ sym (x_more i texts d lt);
+      inside = omega (arith, inside, few);
+    }
+
+-- the beginning of a body
+pub begun : (most : ℕ) (body : List ℕ) (end : ℕ) → end ≡ min most (length body) → take end body ≡ take most body
+begun most body end is = ap (λ n. take n body) is ∙ take_min most body
 
 -- the rows of one more line
 pub rows_more : (lines : List DrawnLine) (i : ℕ) (d : DrawnLine) → i < length lines →
@@ -110,5 +155,8 @@ rows_more lines i d lt =
     ∙ fold-append (λ (most : ℕ) (line : spec.Line). max most (rows_to line.says)) 0 (map line_shown (take i lines))
     (line_shown (get_or lines i d) ∷ [])
 
-pub shown_length : (lines : List DrawnLine) → length (map line_shown lines) ≡ length lines
-shown_length lines = length-map lines line_shown
+-- whether lines tell of receptions, by what each says
+pub told_shown : (lines : List DrawnLine) →
+    list_any (λ line. is_reception (says_shown line.says)) lines ≡ are_told (map line_shown lines)
+told_shown [] = refl
+told_shown (line ∷ lines) = ap (λ b. is_reception (says_shown line.says) || b) (told_shown lines)

@@ -1,5 +1,9 @@
 -- What the readers of words and lines answer, and what their values are in the definitions.
 use Rattle.std.specs.Prelude.{◌≡◌, ℕ, List, Option, Some, None, option_map, map}
+use Rattle.std.specs.Prelude.{Result, Ok, Err}
+use Rattle.std.specs.declared.alloc.Global.{Global}
+use Rattle.std.specs.declared.vec.Vec.{Vec}
+use Rattle.hex.specs.declared.error.FromHexError.{FromHexError}
 use Rattle.script_mean.specs.Words.{Word}
 use Rattle.script_text.specs.Parts.{parts_after}
 use Rattle.chart_mean.specs.Says as spec
@@ -7,7 +11,7 @@ use Rattle.chart_mean.specs.Place as place
 use Rattle.chart_mean.specs.Words as words
 use Rattle.chart_draw.specs.declared.pieces.Pieces.{Pieces}
 use Rattle.chart_draw.specs.declared.says.Says.{Says}
-use Rattle.chart_draw.specs.declared.says.Says.TheVariants.{Deliver, Packet, View, Out, Other, Aside}
+use Rattle.chart_draw.specs.declared.says.Says.TheVariants.{Deliver, Packet, View, Out, Other, Give, Ask, Befall, Aside}
 use Rattle.chart_draw.specs.declared.lines.DrawnLine.{DrawnLine}
 use Rattle.chart_draw.specs.declared.words.Request.{Request}
 use denote.Ref.{Bor}
@@ -18,10 +22,13 @@ pieces_left pieces = parts_after pieces.at pieces.rest
 
 abbrev pub says_shown : Says → spec.Says
 says_shown (Deliver kind member body) = spec.deliver kind.now member body.now
-says_shown (Packet member body) = spec.packet member body.now
+says_shown (Packet number member chain body) = spec.packet number.now member chain.now body.now
 says_shown (View member ltime mask) = spec.view member ltime mask
 says_shown (Out member) = spec.out member
-says_shown (Other verb member) = spec.other verb.now member
+says_shown (Other verb member detail) = spec.other verb.now member detail.now
+says_shown (Give number member) = spec.give number.now member
+says_shown (Ask verb member body) = spec.ask verb.now member body.now
+says_shown (Befall verb member detail) = spec.befall verb.now member detail.now
 says_shown Aside = spec.aside
 
 abbrev pub line_shown : DrawnLine → place.Line
@@ -34,7 +41,7 @@ abbrev pub texts_shown : List (Bor (List ℕ)) → List (List ℕ)
 texts_shown texts = map text_shown texts
 
 abbrev pub request_shown : Request → words.Request
-request_shown request = record { file = request.file.now; range = request.range }
+request_shown request = record { file = request.file.now; excerpt = request.excerpt }
 
 abbrev pub word_shown : Option (Bor (List ℕ)) → Option (List ℕ)
 word_shown word = option_map text_shown word
@@ -53,3 +60,8 @@ TakesWord taken None following = taken ≡ None
 abbrev pub IsSaid : Option (spec.Says × List Word) → Option Says → Type 0
 IsSaid taken (Some says) = option_map (λ t. t.0) taken ≡ Some (says_shown says)
 IsSaid taken None = taken ≡ None
+
+-- the bytes that digits spell, if they spell any
+abbrev pub Decodes : Result (List ℕ) FromHexError → Option (Vec ℕ Global) → Type 0
+Decodes decoded (Some bytes) = decoded ≡ Ok bytes.items
+Decodes decoded None = (cause : FromHexError) × (decoded ≡ Err cause)

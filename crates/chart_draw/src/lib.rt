@@ -6,6 +6,7 @@
 #![tactic(auto)]
 
 mod kinds;
+mod labels;
 mod lines;
 mod marks;
 mod over_sinks;

@@ -1,3 +1,4 @@
+pub mod Arrows
 pub mod Shown
 pub mod Drawn
 pub mod Exact

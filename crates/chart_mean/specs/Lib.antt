@@ -1,7 +1,9 @@
 pub mod Says
+pub mod Label
 pub mod Place
 pub mod Escape
 pub mod Mark
+pub mod Arrows
 pub mod Row
 pub mod Style
 pub mod Picture

@@ -1,23 +1,28 @@
 -- Where things stand in a picture: lines from left to right, members from the top down.
-use Rattle.std.specs.Prelude.{ℕ, ◌+◌, ◌*◌, max, List, [], ◌∷◌, fold}
+use Rattle.std.specs.Prelude.{ℕ, ◌+◌, ◌*◌, max, min, List, [], ◌∷◌, fold, length}
 use Rattle.std.specs.Option.{option_map_or}
 use Rattle.chart_mean.specs.Says.{Says, says_of, member_of}
+use Rattle.chart_mean.specs.Label.{label_of}
 
 -- the left end of all rows
 abbrev pub left : ℕ
 left = 40
 
--- a line, by its place from 0 on
-abbrev pub across : ℕ → ℕ
-across place = 52 + 12 * place
+-- where the first line stands
+abbrev pub first_x : ℕ
+first_x = 52
+
+-- how much room a line takes: for its sign, and for its words, of which 60 bytes count
+abbrev pub width_of : Says → ℕ
+width_of says = 18 + 6 * min 60 (length (label_of says))
 
 -- a member's row
 abbrev pub down : ℕ → ℕ
-down member = 72 + 48 * member
+down member = 112 + 96 * member
 
 -- the row of the lines that are beside the members
 abbrev pub axis : ℕ
-axis = 24
+axis = 48
 
 -- a line of a report in a picture: its number in the report, its place, its text and what it says
 pub record Line : Type 0 where
@@ -27,13 +32,22 @@ pub record Line : Type 0 where
   pub says : Says
 
 -- the line at a place of a picture that begins with the line of this number
-abbrev pub line_at : (first place : ℕ) → List ℕ → Line
-line_at first place text = record { number = first + place; x = across place; text = text; says = says_of text }
+abbrev pub line_at : (first place x : ℕ) → List ℕ → Line
+line_at first place x text = record { number = first + place; x = x; text = text; says = says_of text }
+
+-- where the next line stands
+abbrev pub x_next : ℕ → List ℕ → ℕ
+x_next x text = x + width_of (says_of text)
+
+-- where the line after these stands
+abbrev pub x_after : ℕ → List (List ℕ) → ℕ
+x_after x texts = fold x_next x texts
 
 -- the lines of such a picture, from a place on
-abbrev pub lines_from : (first place : ℕ) → List (List ℕ) → List Line
-lines_from first place [] = []
-lines_from first place (text ∷ texts) = line_at first place text ∷ lines_from first (place + 1) texts
+abbrev pub lines_from : (first place x : ℕ) → List (List ℕ) → List Line
+lines_from first place x [] = []
+lines_from first place x (text ∷ texts) = line_at first place x text ∷
+    lines_from first (place + 1) (x_next x text) texts
 
 -- how far down a line stands
 abbrev pub y_of : Says → ℕ

@@ -6,11 +6,27 @@ ghost use Rattle.chart_mean.specs.declared.types.ChartEnding.TheVariants as endi
 use outside::{ShelfError, SinkError};
 use std::alloc::AllocError;
 
-/// The lines of a report that a picture shows, by the numbers of the first and the last, counted from 1.
+/// Two lines of a report that break a law together, by their numbers.
 #[derive(Clone, Copy, Debug, PartialEq, Eq)]
-pub struct Range {
+pub struct Breach {
+    pub first: u32,
+    pub second: u32,
+}
+
+/// What a picture shows of a report: the lines from the first to the last, by their numbers, counted from 1, and a
+/// breach, if one is to be seen.
+#[derive(Clone, Copy, Debug, PartialEq, Eq)]
+pub struct Excerpt {
     pub first: u32,
     pub last: u32,
+    pub breach: Option<Breach>,
+}
+
+/// How marks are drawn: whether the lines tell of receptions, to which arrows lead then; and the breach that is shown.
+#[derive(Clone, Copy, Debug, PartialEq, Eq)]
+pub struct Manner {
+    pub told: bool,
+    pub breach: Option<Breach>,
 }
 
 /// Where a member is, as far as the lines shown tell.
