@@ -75,7 +75,7 @@ _stackc_files() {
 }
 
 _stackc() {
-  local current=${COMP_WORDS[COMP_CWORD]} before="" job="" options="" kinds="" place=0 at=1 word
+  local current=${COMP_WORDS[COMP_CWORD]} before="" job="" options="" valued="" kinds="" place=0 at=1 word
   COMPREPLY=()
   [ "$COMP_CWORD" -eq 0 ] || before=${COMP_WORDS[COMP_CWORD - 1]}
   # Readline cuts `--run=layered` into three words.
@@ -92,20 +92,23 @@ _stackc() {
 @CASES
   *) return ;;
   esac
-  case $before in
+  if [[ " $valued " == *" $before "* ]]; then
+    case $before in
 @VALUES
-  esac
+    esac
+    return
+  fi
   if [[ $current == -* ]]; then
     mapfile -t COMPREPLY < <(compgen -W "$options" -- "$current")
     return
   fi
   while [ $((at += 1)) -lt "$COMP_CWORD" ]; do
     word=${COMP_WORDS[at]}
-    case $word in
-    @VALUED) at=$((at + 1)); [ "${COMP_WORDS[at]-}" != "=" ] || at=$((at + 1)) ;;
-    -*) ;;
-    *) place=$((place + 1)) ;;
-    esac
+    if [[ " $valued " == *" $word "* ]]; then
+      at=$((at + 1)); [ "${COMP_WORDS[at]-}" != "=" ] || at=$((at + 1))
+    elif [[ $word != -* ]]; then
+      place=$((place + 1))
+    fi
   done
   read -ra kinds <<<"$kinds"
   if [ "$place" -lt "${#kinds[@]}" ]; then
@@ -119,24 +122,24 @@ complete -F _stackc stackc ./stackc
 """
 
 
+def bash_case(job):
+    """The options of a job, those of them that have a value, and what files its words name."""
+    valued = " ".join(option for option, value in job.options.items() if value)
+    kinds = " ".join(TABLE.words[place][0][1] for place in job.places)
+    return f"  {job.name}) options=\"{' '.join(job.options)}\" valued=\"{valued}\" kinds=\"{kinds}\" ;;"
+
+
 def bash():
-    cases = [
-        f"  {job.name}) options=\"{' '.join(job.options)}\" kinds=\"{' '.join(TABLE.words[place][0][1] for place in job.places)}\" ;;"
-        for job in TABLE.jobs.values()
-    ]
-    valued = [option for option, value in TABLE.options().items() if value]
-    chosen = [option for option in valued if values(TABLE.options()[option])]
-    arms = [f"  {option}) mapfile -t COMPREPLY < <(compgen -W \"{' '.join(values(TABLE.options()[option]))}\" -- \"$current\"); return ;;" for option in chosen]
-    named = [option for option in valued if ending(TABLE.options()[option])]
-    arms += [f"  {option}) _stackc_files {ending(TABLE.options()[option])} \"$current\"; return ;;" for option in named]
-    arms.append("  " + " | ".join(option for option in valued if option not in chosen + named) + ") return ;;")
+    cases = [bash_case(job) for job in TABLE.jobs.values()]
+    valued = [(option, value) for option, value in TABLE.options().items() if value]
+    arms = [f"    {option}) mapfile -t COMPREPLY < <(compgen -W \"{' '.join(values(value))}\" -- \"$current\") ;;" for option, value in valued if values(value)]
+    arms += [f"    {option}) _stackc_files {ending(value)} \"$current\" ;;" for option, value in valued if ending(value)]
     fills = {
         "FROM": FROM,
         "JOBS": " ".join(TABLE.jobs),
         "HERE": " ".join(name for name, _ in SCRIPT_WORDS),
         "CASES": "\n".join(cases),
         "VALUES": "\n".join(arms),
-        "VALUED": " | ".join(valued),
     }
     return filled(BASH, fills)
 

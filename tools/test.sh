@@ -1,6 +1,6 @@
 #!/usr/bin/env bash
 # Tries the program's statuses, its causes of refusal, whole runs and nodes, the script ./stackc, its words, files of traces, what a terminal shows, the completions and pages,
-# the editors' grammars, how journals are put together, the tutorial, the index of crates, the rules of the house and a minute of diff/,
+# the editors' grammars, how journals are put together, reports with their events, the tutorial, the index of crates, the rules of the house and a minute of diff/,
 # over the program in $STACKC, a built one or a trial of it, and the formatter in $LAYERFMT, the charts of $RUNCHART and the hunts of $STACKHUNT, if these are set: STACKC=crates/stackc/out/stackc tools/test.sh.
 # Ends with 1 where something differs.
 set -u
@@ -14,7 +14,7 @@ RUNCHART=${RUNCHART:+$(readlink -f "$RUNCHART")}
 STACKHUNT=${STACKHUNT:+$(readlink -f "$STACKHUNT")}
 export STACKC LAYERFMT RUNCHART STACKHUNT PYTHONDONTWRITEBYTECODE=1
 failed=0
-for test in launcher table statuses refusals runs fragments datagrams nodes packs terminal sentences script grammars journals tutorial layouts charts hunts crates house differences; do
+for test in launcher table statuses refusals runs fragments datagrams nodes packs terminal sentences script grammars journals told tutorial layouts charts hunts crates house differences; do
   python3 "$(dirname "$(readlink -f "$0")")/tests/$test.py" || failed=1
 done
 exit "$failed"

@@ -49,13 +49,18 @@ class Table:
                 else:
                     self.statuses.append((name, form, says))
 
-    def options(self):
-        """All options of any job, each with the word for its value."""
-        return {option: value for job in self.jobs.values() for option, value in job.options.items()}
+    def options(self, own=None):
+        """All options of any job, each with the word for its value; where jobs differ, as one of them has it."""
+        options = {option: value for job in self.jobs.values() for option, value in job.options.items()}
+        return {**options, **own.options} if own else options
+
+    def named(self, words):
+        """The job that the first word names which is one's name; None where there is none."""
+        return next((self.jobs[word] for word in words if word in self.jobs), None)
 
     def read(self, words):
         """The job of words with the words at its places and its options; raises NoJob where they are none."""
-        places, given = cut(words, self.options())
+        places, given = cut(words, self.options(self.named(words)))
         if not places:
             raise NoJob("no job is named")
         job = self.jobs.get(places[0])

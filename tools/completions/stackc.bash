@@ -9,7 +9,7 @@ _stackc_files() {
 }
 
 _stackc() {
-  local current=${COMP_WORDS[COMP_CWORD]} before="" job="" options="" kinds="" place=0 at=1 word
+  local current=${COMP_WORDS[COMP_CWORD]} before="" job="" options="" valued="" kinds="" place=0 at=1 word
   COMPREPLY=()
   [ "$COMP_CWORD" -eq 0 ] || before=${COMP_WORDS[COMP_CWORD - 1]}
   # Readline cuts `--run=layered` into three words.
@@ -23,33 +23,35 @@ _stackc() {
   fi
   job=${COMP_WORDS[at]}
   case $job in
-  check) options="" kinds="layers" ;;
-  synth) options="" kinds="layers" ;;
-  pack) options="" kinds="layers" ;;
-  replay) options="--run --with --wire --count" kinds="layers script" ;;
-  explain) options="" kinds="layers script" ;;
-  load) options="--seed --events --members --run --raw" kinds="layers" ;;
-  node) options="--turns --me --run --patience" kinds="layers plan" ;;
-  audit) options="--law" kinds="report" ;;
+  check) options="" valued="" kinds="layers" ;;
+  synth) options="" valued="" kinds="layers" ;;
+  pack) options="" valued="" kinds="layers" ;;
+  replay) options="--run --with --events --wire --count" valued="--run --with" kinds="layers script" ;;
+  explain) options="" valued="" kinds="layers script" ;;
+  load) options="--seed --events --members --run --raw" valued="--seed --events --members --run" kinds="layers" ;;
+  node) options="--turns --me --run --patience" valued="--turns --me --run --patience" kinds="layers plan" ;;
+  audit) options="--law" valued="--law" kinds="report" ;;
   *) return ;;
   esac
-  case $before in
-  --run) mapfile -t COMPREPLY < <(compgen -W "bypass layered" -- "$current"); return ;;
-  --law) mapfile -t COMPREPLY < <(compgen -W "sender total same" -- "$current"); return ;;
-  --with) _stackc_files bypasses "$current"; return ;;
-  --seed | --events | --members | --turns | --me | --patience) return ;;
-  esac
+  if [[ " $valued " == *" $before "* ]]; then
+    case $before in
+    --run) mapfile -t COMPREPLY < <(compgen -W "bypass layered" -- "$current") ;;
+    --law) mapfile -t COMPREPLY < <(compgen -W "sender total same" -- "$current") ;;
+    --with) _stackc_files bypasses "$current" ;;
+    esac
+    return
+  fi
   if [[ $current == -* ]]; then
     mapfile -t COMPREPLY < <(compgen -W "$options" -- "$current")
     return
   fi
   while [ $((at += 1)) -lt "$COMP_CWORD" ]; do
     word=${COMP_WORDS[at]}
-    case $word in
-    --run | --with | --seed | --events | --members | --turns | --me | --patience | --law) at=$((at + 1)); [ "${COMP_WORDS[at]-}" != "=" ] || at=$((at + 1)) ;;
-    -*) ;;
-    *) place=$((place + 1)) ;;
-    esac
+    if [[ " $valued " == *" $word "* ]]; then
+      at=$((at + 1)); [ "${COMP_WORDS[at]-}" != "=" ] || at=$((at + 1))
+    elif [[ $word != -* ]]; then
+      place=$((place + 1))
+    fi
   done
   read -ra kinds <<<"$kinds"
   if [ "$place" -lt "${#kinds[@]}" ]; then

@@ -15,7 +15,7 @@ use Rattle.script_mean.specs.declared.script.Script.{Script}
 use Rattle.stack_mean.specs.Plans.{plans_of}
 use Rattle.run_mean.specs.Mode.{Mode}
 use Rattle.run_mean.specs.Journal.{Heard, failure, note_lines, node_lines, Handed}
-use Rattle.run_mean.specs.Report.{output_in}
+use Rattle.group_mean.specs.Told.{replay_lines}
 use Rattle.run_mean.specs.Tally.{tally, accepted_lines}
 use Rattle.miss_mean.specs.Text.{explained_lines}
 use Rattle.group_mean.specs.Node.{Surroundings, NodeWords, failed_sends, failures, node_notes, node_moments, handed_by}
@@ -29,16 +29,15 @@ pub record Checks (file out : List ℕ) : Type 0 where
   pub written : out ≡ concat (accepted_lines stack)
 
 -- `replay`: whatever stack the file means and whatever script the other bytes spell, what is written is the output of
--- the layered
--- meaning, in either mode. Without the packets' bytes and the number of visits it is the report, which knows of no
--- mode.
-pub record Replays (file script_text : List ℕ) (mode : Mode) (wire count : Bool) (out : List ℕ) : Type 0 where
+-- the layered meaning, in either mode. Without the packets' bytes and the number of visits it is the report, which
+-- knows of no mode; with the events it tells these, too.
+pub record Replays (file script_text : List ℕ) (mode : Mode) (events wire count : Bool) (out : List ℕ) : Type 0 where
   pub stack : List LayerTree
   pub means : Means file stack
   pub script : Script
   pub spelled : script_of script_text ≡ Ok script
   pub room : HasRoom stack script.members
-  pub written : out ≡ concat (output_in stack (plans_of stack) script mode wire count)
+  pub written : out ≡ concat (replay_lines stack (plans_of stack) script mode events wire count)
 
 -- `explain`: whatever stack the file means and whatever script the other bytes spell, what is written says of each step
 -- that was taken and wasn't common what it lacked, with the lines of that file.
