@@ -1,5 +1,6 @@
 """What a refusal means: the line of the file that it names with a caret, and a sentence."""
 import os
+import socket
 
 import causes
 import lines
@@ -66,8 +67,24 @@ def fault_told(path):
         return f"{clean(path)}: {fault.strerror}\n"
 
 
-def link_told(given):
-    """Why a node's network may have failed."""
+def listen_fault(host, port):
+    """Why nobody could listen at this address; nothing where that would go well."""
+    with socket.socket(socket.AF_INET, socket.SOCK_DGRAM) as tried:
+        try:
+            tried.bind((host, int(port)))
+            return ""
+        except OSError as fault:
+            return fault.strerror
+
+
+def link_told(places, given):
+    """Which own member of a node couldn't listen, where, and what the system says of that; or else that receives failed."""
+    with open(places["PLAN"], encoding="latin-1") as plan:
+        peers = dict(line.split()[1:3] for line in plan if line.startswith("peer "))
+    for me in given["--me"].split(","):
+        fault = listen_fault(*peers[me].split(":"))
+        if fault:
+            return f"stackc: member {me} can't listen at {peers[me]}: {fault}\n"
     borne = given.get("--patience", "0")
     return f"stackc: a member of `--me {clean(given['--me'])}` couldn't listen at its address, or more than {clean(borne)} receives failed (`--patience`)\n"
 
@@ -151,7 +168,8 @@ def meaning(status, said, words):
             _, places, given = table.read(words)
             return next(filter(None, (fault_told(path) for path in [*places.values(), *filter(None, [given.get("--with")])])), "")
         if status == 6 and said == "link fault":
-            return link_told(table.read(words)[2])
+            _, places, given = table.read(words)
+            return link_told(places, given)
     except NoJob:
         pass
     return ""

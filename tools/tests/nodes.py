@@ -1,9 +1,14 @@
 #!/usr/bin/env python3
-"""Runs nodes of the program in $STACKC over the loopback: all members of a group in one node, whose journal replays to the rest of it, and one whose packets come here."""
+"""Runs nodes of the program in $STACKC over the loopback: all members of a group in one node, whose journal replays to the rest of it; one whose packets come here;
+one that is stopped and goes on, whose lines are seen while it runs; and one of 32 members, of which one alone is sent to."""
+import contextlib
+import signal
 import socket
+import subprocess
+import time
 
 from journals import free_ports
-from program import runs
+from program import PROGRAM, runs
 
 LAYERS = """layer cnt {
   state int k;
@@ -51,6 +56,68 @@ def to_a_stranger(made):
         made.compare("what it sent", [other.recv(65536), other.recv(65536)], [SEND, CAST])
 
 
+def peers(ports):
+    """The first lines of a plan."""
+    return f"group 1 stamp 7 members {len(ports)}\n" + "".join(f"peer {k} 127.0.0.1:{port}\n" for k, port in enumerate(ports))
+
+
+@contextlib.contextmanager
+def running(made, turns, me):
+    """A node that is begun, whose first line is seen."""
+    words = [PROGRAM, "node", "a.layers", "a.plan", "--turns", str(turns), "--me", me]
+    with subprocess.Popen(words, cwd=made.folder, stdin=subprocess.DEVNULL, stdout=subprocess.PIPE, stderr=subprocess.PIPE, bufsize=0) as node:
+        try:
+            yield node, node.stdout.readline()
+        finally:
+            node.kill()
+
+
+def sent(port, count):
+    """Sends datagrams that no member takes for a packet."""
+    with socket.socket(socket.AF_INET, socket.SOCK_DGRAM) as other:
+        for _ in range(count):
+            other.sendto(b"?", ("127.0.0.1", port))
+
+
+def rest_of(node):
+    """The lines of a node from here on, once it has ended, and its status."""
+    lines = node.stdout.read().decode().splitlines()
+    return lines, node.wait(60)
+
+
+def seen_and_stopped(made):
+    """A node whose first line is seen though it runs for minutes; and one that is stopped while forty datagrams come, and goes on."""
+    port, = free_ports(1)
+    made.put("a.plan", peers([port]))
+    with running(made, 1_000_000, "0") as (_, first):
+        made.compare("the first line of an idle node", first, b"> tick 0 0\n")
+    with running(made, 400, "0") as (node, _):
+        for _ in range(5):
+            node.send_signal(signal.SIGSTOP)
+            time.sleep(0.02)
+            node.send_signal(signal.SIGCONT)
+            time.sleep(0.02)
+        node.send_signal(signal.SIGSTOP)
+        sent(port, 40)
+        node.send_signal(signal.SIGCONT)
+        lines, status = rest_of(node)
+        turns = "".join("t" if line.startswith("> tick") else "r" for line in lines if line.startswith(("> tick", "> raw"))).split("t")
+        heard = [len(turn) for turn in turns if turn]
+        made.compare("a node that was stopped", (status, [line for line in lines if line.startswith("deaf")], sum(heard), max(heard)), (0, [], 40, 16))
+
+
+def one_of_many(made):
+    """A node of all 32 members, of which one alone is sent to: it takes all that is sent in as few turns as it can."""
+    ports = free_ports(32)
+    made.put("a.plan", peers(ports))
+    with running(made, 60, ",".join(map(str, range(32)))) as (node, _):
+        node.send_signal(signal.SIGSTOP)
+        sent(ports[31], 200)
+        node.send_signal(signal.SIGCONT)
+        lines, status = rest_of(node)
+        made.compare("one busy member of 32", (status, sum(line.startswith("> raw 31 ") for line in lines), lines[-1]), (0, 200, f"end {60 * 32 + 200}"))
+
+
 def main():
     with runs("nodes") as made:
         made.put("a.layers", LAYERS)
@@ -58,6 +125,8 @@ def main():
             whole_group(made, mode)
         made.compare("a member of none", made.run(["node", "a.layers", "a.plan", "--turns=2", "--me=1,3", "--run=layered", "--patience=0"]), (3, "", "script: member 1\n"))
         to_a_stranger(made)
+        seen_and_stopped(made)
+        one_of_many(made)
 
 
 if __name__ == "__main__":

@@ -53,8 +53,19 @@ pub fn say<E: Sink>(alloc: Global, ending: Ending, err: &mut E) -> u8
     }
 }
 
-/// Says why a stack file is refused.
+/// Says why a stack file is refused. That memory ran out is said without any.
 fn say_file<E: Sink>(alloc: Global, error: FileError, err: &mut E) -> u8
+    ensures { Said (file_end error)
+        (errors (tells_of E.Sink err.old) (tells_of E.Sink err.new) result) }
+{
+    match error {
+        FileError::Memory => say_line(b"no memory\n", NO_MEMORY, err),
+        _ => say_cause(alloc, error, err),
+    }
+}
+
+/// Says the cause for which a stack file is refused.
+fn say_cause<E: Sink>(alloc: Global, error: FileError, err: &mut E) -> u8
     ensures { Said (file_end error)
         (errors (tells_of E.Sink err.old) (tells_of E.Sink err.new) result) }
 {

@@ -1,5 +1,5 @@
 use Rattle.job_ends.proofs.Texts.{says_file}
-use Rattle.job_ends.proofs.saying.say_file.Goals as goal
+use Rattle.job_ends.proofs.saying.say_cause.Goals as goal
 
 pub returns-in-Ok : goal.returns-in-Ok
 returns-in-Ok g c =
