@@ -135,8 +135,8 @@ uint32_t juq_leave(juq_t *h);
  * `mnak` and `pt2pt` send again at a tick that comes `gap` units (100) after the last time, `suspect` pings each `every`
  * (100) and gives up a member that was silent for `after` (500), for good. With milliseconds write in the stack
  * `mnak(gap = 20); pt2pt(gap = 10);` and `suspect(every = 500, after = 5000)`, and tick each 10 ms: pt2pt sends one message
- * a gap again, so that after a loss a member that sends more often than that falls behind for ever, its pings too; and a
- * machine that is busy lets a process wait for a second now and then. Moments begin anywhere and should not fall. Tick at
+ * a gap again and drops what overtook it, so that while one is missing a member that sends more often falls behind, its
+ * pings too; and a busy machine lets a process wait for a second now and then. Moments begin anywhere and should not fall. Tick at
  * regular moments, and at those that JUQ_EVENT_TIMER asks for: without ticks nothing is sent again, nobody is suspected. */
 uint32_t juq_tick(juq_t *h, uint32_t moment);
 

@@ -1,5 +1,5 @@
 -- A member that is opened alone.
-use Rattle.std.proofs.Common.{◌≡◌, ℕ, ◌<◌, ◌≤◌, ◌∙◌, ap, subst, Result, Ok, Err}
+use Rattle.std.proofs.Common.{◌≡◌, ℕ, ◌<◌, ◌≤◌, ◌∙◌, ap, subst, List, Result, Ok, Err}
 use Rattle.msg_core.specs.View.{first_view, member_count}
 use Rattle.msg_core.specs.declared.packet.View.{View}
 use Rattle.stack_mean.specs.Acceptance.{rows_of, most_rows}
@@ -11,7 +11,11 @@ use Rattle.group_member.specs.declared.error.OpenError.{OpenError}
 use Rattle.group_member.specs.declared.error.OpenError.TheVariants.{TooLarge, Memory}
 use Rattle.group_member.specs.declared.opening.Opening.{Opening}
 use Rattle.group_world.proofs.FirstView.{count_of_first}
-use Rattle.group_open.specs.OneMember.{OpensFirst}
+use Rattle.layer_mean.specs.Tree.{LayerTree}
+use Rattle.run_mean.specs.Mode.{Mode}
+use Rattle.group_mean.specs.Room.{HasRoom}
+use Rattle.group_member.specs.Opening.{mode_in}
+use Rattle.group_open.specs.OneMember.{IsAtFirst, IsFirst, OpensFirst}
 
 rows_are : (o : Opening) (view : View) (n : ℕ) → view ≡ first_view n → n ≤ 32 → rows_in o view ≡ rows_of (stack_in o) n
 rows_are o view n first few = ap (λ v. rows_in o v) first ∙ ap (rows_of (stack_in o)) (count_of_first n few)
@@ -34,3 +38,12 @@ opens_first o n id view most maker before after (Ok m) first few can is = record
 opens_first o n id view most maker before after (Err TooLarge) first few can is =
     subst (λ (rows : ℕ). most_rows < rows) (rows_are o view n first few) is.0
 opens_first o n id view most maker before after (Err Memory) first few can is = tt
+
+-- A member that is first over a stack and a mode that equal these is first over these.
+pub opened_as : (o : Opening) (n id : ℕ) (m : Placed) (mode : Mode) (stack : List LayerTree) → mode_in o ≡ mode →
+    stack_in o ≡ stack → IsFirst o n id m → IsAtFirst mode stack o.group o.stamp n id m × HasRoom stack n
+opened_as o n id m mode stack mode_is stack_is is = (
+  subst (λ (s : List LayerTree). IsAtFirst mode s o.group o.stamp n id m) stack_is
+      (subst (λ (md : Mode). IsAtFirst md (stack_in o) o.group o.stamp n id m) mode_is is.first),
+  subst (λ (s : List LayerTree). HasRoom s n) stack_is is.room,
+)
