@@ -1,6 +1,7 @@
 //! What is asked of what is made of an entry.
 
 ghost use Rattle.std.specs.Prelude.{◌≡◌, IfOk, option_map};
+ghost use Rattle.guard_laws.specs.LastCheck.{to_last_check};
 ghost use Rattle.guard_mean.specs.Checks.{checks_of};
 ghost use Rattle.guard_mean.specs.Hoist.{hoisted};
 ghost use Rattle.trace_core.specs.Bypasses.{made_tree};
@@ -21,9 +22,9 @@ pub(crate) enum Asked {
     Nothing(Absent),
 }
 
-/// The checks of a trace, carried to its entry.
+/// The checks of a trace, carried to its entry with the operations up to the last one.
 fn checks(alloc: Global, trace: &Trace) -> Result<Checks, AllocError>
-    ensures { IfOk result (λ c. c ≡ checks_of (hoisted (trace_tree trace.now))) }
+    ensures { IfOk result (λ c. c ≡ checks_of (hoisted (to_last_check (trace_tree trace.now)))) }
 {
     let hoisted = hoist(alloc, trace)?;
     let checks = compile_checks(alloc, &hoisted)?;

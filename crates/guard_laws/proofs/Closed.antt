@@ -544,7 +544,7 @@ list_closed : (n : ℕ) (es : List TraceNumber) → ClosedAll n es → list_all 
 list_closed n [] h = refl
 list_closed n (e ∷ es) h = two _ _ h.0 (list_closed n es h.1)
 
-first_is_closed : (os : List Operation) → is_closed (hoisted os) ≡ true
+pub first_is_closed : (os : List Operation) → is_closed (hoisted os) ≡ true
 first_is_closed os =
     let c = hoist_all_closed os nothing_yet
     (record { values = refl; conjuncts = tt; binds = tt; notes = tt; rows = tt; log = tt }) in

@@ -17,3 +17,4 @@ pub mod Entry
 pub mod Counts
 pub mod Forms
 pub mod Safe
+pub mod LastCheck

@@ -7,6 +7,7 @@ ghost use Rattle.guard_laws.specs.Code.{CodeIsSame};
 ghost use Rattle.guard_laws.specs.Counts.{CodeAddsNothing, HoistedAddsNothing, SimplifiedAddsNothing};
 ghost use Rattle.guard_laws.specs.Entry.{CodesAreRight, CodesFollowTraces, EntriesAreGuarded};
 ghost use Rattle.guard_laws.specs.Forms.{SimplifiedStaysFormed};
+ghost use Rattle.guard_laws.specs.LastCheck.{GuardsEndWithChecks};
 ghost use Rattle.guard_laws.specs.Safe.{CodeIsSafe};
 ghost use Rattle.guard_laws.specs.Same.{HoistedIsSame};
 ghost use Rattle.guard_laws.specs.Simpler.{SimplifiedIsReduced, SimplifiedIsSame};
@@ -82,4 +83,9 @@ pub fn hoisted_is_closed()
 /// So does what is simplified.
 pub fn simplified_is_closed()
     ensures { SimplifiedIsClosed }
+{}
+
+/// The guard of a trace is made of its operations up to the last check: carrying those after it adds nothing.
+pub fn guards_end_with_checks()
+    ensures { GuardsEndWithChecks }
 {}

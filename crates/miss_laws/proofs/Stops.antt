@@ -1,5 +1,6 @@
 -- Of a hoisted trace the first conjunct that doesn't hold is the check at which following it stops.
-use Rattle.std.proofs.Common.{◌≡◌, ◌∙◌, ℕ, ◌+◌, Bool, true, false, if◌then◌else◌, List, [], ◌∷◌, length, Option, Some}
+use Rattle.std.proofs.Common.{◌≡◌, ◌∙◌, ℕ, ◌+◌, Bool, true, false, ◌||◌, if◌then◌else◌, List, [], ◌∷◌, length, Option}
+use Rattle.std.proofs.Common.{Some}
 use Rattle.std.proofs.Common.{fold, refl, sym, ap, arith}
 use Rattle.std.specs.Prelude.{not}
 use Rattle.std.proofs.lemmas.Iterator.Adapters.{position_from-zero}
@@ -8,7 +9,9 @@ use Rattle.layer_mean.specs.State.{State}
 use Rattle.layer_mean.specs.Value.{is_true}
 use Rattle.trace_mean.specs.Trace.{TraceNumber, Operation, bind, note, check, set, set_square, push, take, output}
 use Rattle.trace_mean.specs.Worth.{Input, number_of, only_values}
-use Rattle.trace_mean.specs.Follow.{Trail, Followed, on, stopped_at, operates, follows, before, answer_of, follow}
+use Rattle.trace_mean.specs.Follow.{Trail, Followed, on, stopped_at, operates, goes_on, follows, before, answer_of}
+use Rattle.trace_mean.specs.Follow.{follow, is_done}
+use Rattle.guard_laws.specs.LastCheck.{has_check, to_last_check}
 use Rattle.guard_mean.specs.Perform.{values_of, holds_at}
 use Rattle.guard_mean.specs.Hoist.{Hoisting, back, hoists, nothing_yet, hoisted}
 use Rattle.guard_laws.specs.Sound.{Squares, Sound}
@@ -95,7 +98,68 @@ module _ (sq : Squares) (i : Input) (ss : List State) where
         go (on t) p = none_failed (holds_at i (only_values vs) ss) h.conjuncts 0 (p.guards.passed vs (grown_same vs))
         go (stopped_at k) c = c vs (grown_same vs)
 
+-- Up to the last check a trace is followed as far as its checks ask.
+sound_part : (sq : Squares) (i : Input) (operations : List Operation) (f : Followed) → Sound sq i operations f →
+    Sound sq i (to_last_check operations) f
+sound_part sq i [] f sound = tt
+sound_part sq i (o ∷ operations) (stopped_at k) sound = go (has_check (o ∷ operations)) where
+  go : (b : Bool) → Sound sq i (if b then o ∷ to_last_check operations else []) (stopped_at k)
+  go true = tt
+  go false = tt
+sound_part sq i (o ∷ operations) (on t) sound =
+    go (has_check (o ∷ operations)) (sound_part sq i operations (operates i t o) sound.1) where
+      go : (b : Bool) → Sound sq i (to_last_check operations) (operates i t o) →
+          Sound sq i (if b then o ∷ to_last_check operations else []) (on t)
+      go true rest = (sound.0, rest)
+      go false rest = tt
+
+-- where following stopped, if it did
+abbrev stop_in : Followed → Option ℕ
+stop_in f = stop_of (answer_of f)
+
+one_stops : (i : Input) (f : Followed) (o : Operation) → not (is_done o) ≡ false → stop_in (goes_on i f o) ≡ stop_in f
+one_stops i (stopped_at k) o other = refl
+one_stops i (on t) (check e) other = absurd (cc other)
+one_stops i (on t) (bind e) other = refl
+one_stops i (on t) (note m) other = refl
+one_stops i (on t) (set p c e v) other = refl
+one_stops i (on t) (set_square p c r k v) other = refl
+one_stops i (on t) (push p c e numbers m) other = refl
+one_stops i (on t) (take p c e) other = refl
+one_stops i (on t) (output dir kind numbers m) other = refl
+
+unchecked_stops : (i : Input) (operations : List Operation) (f : Followed) → has_check operations ≡ false →
+    stop_in (follows i operations f) ≡ stop_in f
+unchecked_stops i [] f none = refl
+unchecked_stops i (o ∷ operations) f none =
+    go (not (is_done o)) refl none (unchecked_stops i operations (goes_on i f o)) where
+      go : (b : Bool) → not (is_done o) ≡ b → (b || has_check operations) ≡ false →
+          (has_check operations ≡ false → stop_in (follows i operations (goes_on i f o)) ≡ stop_in (goes_on i f o)) →
+          stop_in (follows i operations (goes_on i f o)) ≡ stop_in f
+      go true is none rest = absurd (cc none)
+      go false is none rest = rest none ∙ one_stops i f o is
+
+part_stops : (i : Input) (operations : List Operation) (f : Followed) →
+    stop_in (follows i (to_last_check operations) f) ≡ stop_in (follows i operations f)
+part_stops i [] f = refl
+part_stops i (o ∷ operations) f =
+    go (has_check (o ∷ operations)) refl (part_stops i operations (goes_on i f o)) where
+      go : (b : Bool) → has_check (o ∷ operations) ≡ b →
+          stop_in (follows i (to_last_check operations) (goes_on i f o)) ≡
+          stop_in (follows i operations (goes_on i f o)) →
+          stop_in (follows i (if b then o ∷ to_last_check operations else []) f) ≡
+          stop_in (follows i operations (goes_on i f o))
+      go true is rest = rest
+      go false is rest = sym (unchecked_stops i (o ∷ operations) f is)
+
+follow_stops : (i : Input) (operations : List Operation) (states : List State) →
+    stop_of (follow i (to_last_check operations) states) ≡ stop_of (follow i operations states)
+unfolding follow
+follow_stops i operations states = part_stops i operations (on (before states))
+
 pub unheld_stops : UnheldStops
 unheld_stops case stack k fields operations i states named made enters =
-    ends (squares_of stack) i states operations
-    (entries_are_sound case stack k fields operations i states named made enters)
+    ends (squares_of stack) i states (to_last_check operations)
+    (sound_part (squares_of stack) i operations (on (before states))
+    (entries_are_sound case stack k fields operations i states named made enters))
+    ∙ follow_stops i operations states

@@ -35,6 +35,7 @@ use Rattle.trace_laws.proofs.Shapes.{traces_stand_for_shapes}
 use Rattle.handler_laws.specs.Steps.{entry_fields}
 use Rattle.handler_laws.proofs.Entries.{entries_begin, steps_follow_traces}
 use Rattle.guard_mean.specs.Hoist.{hoisted}
+use Rattle.guard_laws.specs.LastCheck.{to_last_check}
 use Rattle.bypass_mean.specs.Bypasses.{Entry, plan_entry, entries_of}
 use Rattle.bypass_laws.specs.Stack.{lack_of}
 use Rattle.bypass_laws.specs.Making.{made_with, made_of, second_of, bypasses_of, IsSound, simplest}
@@ -81,9 +82,9 @@ module _ (stack : List LayerTree) (plans : List Plan) (here : Here) (id : ℕ) (
 
     -- the checks of its trace find the first decision that was missed
     finds : (trace : List Operation) → trace_of case stack e.known e.fields ≡ Ok trace →
-        first_failing i (checks_of (hoisted trace)) states ≡ first_missed case s
+        first_failing i (checks_of (hoisted (to_last_check trace))) states ≡ first_missed case s
     finds trace made =
-        checks_find_unheld (hoisted trace) i states
+        checks_find_unheld (hoisted (to_last_check trace)) i states
         ∙ unheld_stops case stack e.known e.fields trace i states sound.named made entered
         ∙ ap stop_of (steps_follow_traces case stack plans here id states what e.known trace step are enters
         (ap (trace_of case stack e.known) varied ∙ made)).answer

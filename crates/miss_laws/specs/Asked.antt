@@ -7,16 +7,17 @@ use Rattle.trace_mean.specs.Worth.{Input}
 use Rattle.guard_mean.specs.Hoist.{hoisted}
 use Rattle.bypass_mean.specs.Bypasses.{Made, fused, absent, Bypasses}
 use Rattle.guard_mean.specs.Checks.{Checks, checks_of, first_failing}
+use Rattle.guard_laws.specs.LastCheck.{to_last_check}
 use Rattle.lack_mean.specs.Lacks as lack
 use Rattle.lack_mean.specs.Lacks.{Lack, Entry, cast, send, plan, none, Miss}
 
--- Of an entry in a case: its checks, or why it has no trace.
+-- Of an entry in a case: the checks of its trace, for which it is hoisted up to the last of them, or why it has none.
 pub data Asked : Type 0 where
   checks : Checks → Asked
   nothing : NoShape → Asked
 
 abbrev pub asked_of : Made → Asked
-asked_of (fused trace guarded) = checks (checks_of (hoisted trace))
+asked_of (fused trace guarded) = checks (checks_of (hoisted (to_last_check trace)))
 asked_of (absent reason) = nothing reason
 
 -- What is asked of the entries, in their order: of each in its first case, and in its second, where that is made.

@@ -10,8 +10,8 @@ pub fn checks_find_unheld()
     ensures { ChecksFindUnheld }
 {}
 
-/// The first conjunct of a hoisted trace that doesn't hold has the number of the check at which following the trace
-/// stops.
+/// The first conjunct of a trace, hoisted up to its last check, that doesn't hold has the number of the check at which
+/// following the trace stops.
 pub fn unheld_stops()
     ensures { UnheldStops }
 {}
