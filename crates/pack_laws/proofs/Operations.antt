@@ -1,11 +1,13 @@
 -- What an operation's line says names only what may be named.
 use Rattle.std.proofs.Common.{◌≡◌, ℕ, zero, suc, ◌+◌, Bool, true, false, ◌==◌, List, [], ◌∷◌, ◌++◌, length, Option}
-use Rattle.std.proofs.Common.{Some, None, codes, decimal, bytes_eq, replicate, refl}
-use Rattle.std.specs.Prelude.{if◌then◌else◌, take}
+use Rattle.std.proofs.Common.{Some, None, codes, decimal, replicate}
+use Rattle.std.specs.Prelude.{if◌then◌else◌}
 use Rattle.std.specs.List.{AllByRecursion}
+use Rattle.layer_words.specs.declared.events.Dir.{Dir}
+use Rattle.layer_words.specs.declared.events.Dir.TheVariants.{Up, Down}
 use Rattle.layer_words.specs.Spelling.{beside}
+use Rattle.layer_mean.specs.Event.{carries}
 use Rattle.layer_mean.specs.Tree.{Carried, LayerTree}
-use Rattle.msg_core.specs.Headers.{most_fields}
 use Rattle.trace_mean.specs.Trace as trace
 use Rattle.trace_mean.specs.Trace.{Atom, Core, TraceNumber, element, square, rows}
 use Rattle.trace_mean.specs.Trace.{Link, Operation, bind, note, check, set}
@@ -15,16 +17,16 @@ use Rattle.trace_form_laws.specs.Names as names
 use Rattle.trace_form_laws.specs.Names.{Name, NumberNames, MessageNames, AtomNames, LinkNames, ChainedNames, SentNames}
 use Rattle.trace_form_laws.specs.Names.{OperationNames}
 use Rattle.bypass_mean.specs.Text.{layer_of}
-use Rattle.pack_mean.specs.Reader.{Reader, ◌>>=◌, yields, option_reader, the_text, a_word, each_of}
+use Rattle.pack_mean.specs.Reader.{◌>>=◌, yields, option_reader, the_text, a_word, each_of}
 use Rattle.pack_mean.specs.Named.{Named, items_at, atom_named, core_named, kind_named}
 use Rattle.pack_mean.specs.Expression.{inside, most_brackets, a_cell, a_number, a_message, a_queue}
-use Rattle.pack_mean.specs.Operation.{an_atom, tag_named, a_link, links_after, some_links, a_chain, a_chained}
-use Rattle.pack_mean.specs.Operation.{comma_after, row_message, Sent, nothing_sent, a_last, or_no_more, sent_by}
-use Rattle.pack_mean.specs.Operation.{sent_within, what_is_sent, chained_after, setting, a_bind, a_note}
+use Rattle.pack_mean.specs.Operation.{an_atom, a_core, tag_named, a_link, links_after, some_links, a_chain, a_chained}
+use Rattle.pack_mean.specs.Operation.{comma_after, row_message, numbers_of, event_message, chain_towards, chained_after}
+use Rattle.pack_mean.specs.Operation.{a_row_number, setting, a_bind, a_note}
 use Rattle.layer_words.specs.Signs.{directions}
 use Rattle.pack_mean.specs.Operation.{a_check, a_set, a_push, a_take, an_output, operation_by, operation_said}
 use Rattle.pack_laws.proofs.Readers.{some_same, Gives, gives_value, gives_given, gives_nowhere, gives_then, gives_past}
-use Rattle.pack_laws.proofs.Readers.{gives_name, gives_word, gives_known, gives_text, gives_case, gives_either}
+use Rattle.pack_laws.proofs.Readers.{gives_name, gives_word, gives_known, gives_text, gives_case}
 use Rattle.pack_laws.proofs.Readers.{gives_whole, gives_each}
 use Rattle.pack_laws.proofs.Form.{Spelled, QueueSo, InnerSo, cell_is, queue_is, number_is, message_is, inside_is}
 
@@ -34,6 +36,9 @@ module _ (stack : List LayerTree) (s : Named) (So : Name → Type 0) (spelled : 
 
   any_number : Gives (NumberNames So) (a_number stack s)
   any_number = number_is stack s So spelled (inside stack s most_brackets) deepest_is
+
+  any_row_number : Gives (NumberNames So) (a_row_number stack s)
+  any_row_number = deepest_is.number
 
   any_message : Gives (MessageNames So) (a_message stack s)
   any_message = message_is stack s So spelled (inside stack s most_brackets) deepest_is
@@ -109,48 +114,27 @@ module _ (stack : List LayerTree) (s : Named) (So : Name → Type 0) (spelled : 
       (λ _. gives_then (ChainedNames So) (SentNames So) (a_chained stack s place) (λ m. yields (Some m))
       (chained_is place) (λ m m_is. gives_value (SentNames So) (Some m) m_is))
 
+  core_is : Gives (λ c. So (names.a_message c)) (a_core s)
+  core_is = gives_name _ _ (λ name. gives_given _ (core_named s name) (spelled.core_is name))
+
   abbrev CoreSo : Option Core → Type 0
   CoreSo None = Unit {0}
   CoreSo (Some c) = So (names.a_message c)
 
-  record SentSo (sent : Sent) : Type 0 where
-    numbers : AllByRecursion (AtomNames So) sent.numbers
-    message : CoreSo sent.message
+  event_message_is : (has : Bool) → Gives CoreSo (event_message s has)
+  event_message_is false = gives_value CoreSo None tt
+  event_message_is true = gives_text CoreSo (codes ",") _
+      (λ u. gives_then (λ c. So (names.a_message c)) CoreSo (a_core s) (λ c. yields (Some c)) core_is
+      (λ c c_is. gives_value CoreSo (Some c) c_is))
 
-  nothing_sent_is : SentSo nothing_sent
-  nothing_sent_is = record { numbers = tt; message = tt }
+  towards_is : (dir : Dir) → Gives ChainSo (chain_towards stack s dir)
+  towards_is Down = chain_is 0
+  towards_is Up = gives_value ChainSo [] tt
 
-  last_is : (name : List (List ℕ)) → Gives SentSo (a_last s name)
-  last_is name = gives_then (λ c. So (names.a_message c)) _ _ _
-      (gives_given _ (core_named s name) (spelled.core_is name))
-      (λ c c_is. gives_value _ _ record { numbers = tt; message = c_is })
-
-  no_more_is : (more : Reader Sent) → Gives SentSo more → Gives SentSo (or_no_more more)
-  no_more_is more h = gives_either SentSo (λ text. bytes_eq (take 1 text) (codes ","))
-      (the_text (codes ",") >>= λ _. more) (yields nothing_sent)
-      (gives_past _ _ _ (λ _. h)) (gives_value _ _ nothing_sent_is)
-
-  sent_by_is : (more : Reader Sent) → Gives SentSo more → (name : List (List ℕ)) (o : Option Atom) →
-      ((a : Atom) → o ≡ Some a → So (names.a_number a)) → Gives SentSo (sent_by s more name o)
-  sent_by_is more h name None a_is = last_is name
-  sent_by_is more h name (Some a) a_is = gives_then _ _ _ _ (no_more_is more h) (λ sent sent_is.
-      gives_value _ _ record { numbers = (a_is a refl, sent_is.numbers); message = sent_is.message })
-
-  sent_within_is : (left : ℕ) → Gives SentSo (sent_within s left)
-  sent_within_is zero = gives_name _ _ (λ name. last_is name)
-  sent_within_is (suc left) =
-      gives_name _ _ (λ name. sent_by_is (sent_within s left) (sent_within_is left) name (atom_named s name)
-      (spelled.atom_is name))
-
-  sent_is : Gives SentSo (what_is_sent s)
-  sent_is = gives_either SentSo (λ text. bytes_eq (take 1 text) (codes ")")) (yields nothing_sent)
-      (sent_within s most_fields)
-      (gives_value _ _ nothing_sent_is) (sent_within_is most_fields)
-
-  after_is : (o : Option Core) → CoreSo o → Gives (SentNames So) (chained_after stack s o)
-  after_is None h = gives_value (SentNames So) None tt
-  after_is (Some c) h =
-      gives_then ChainSo _ _ _ (chain_is 0)
+  after_is : (dir : Dir) (o : Option Core) → CoreSo o → Gives (SentNames So) (chained_after stack s dir o)
+  after_is dir None h = gives_value (SentNames So) None tt
+  after_is dir (Some c) h =
+      gives_then ChainSo _ _ _ (towards_is dir)
       (λ chain chain_are. gives_value (SentNames So) _ record { chain_is = chain_are; core_is = h })
 
   setting_is : (t : TraceNumber) → NumberNames So t → (x : TraceNumber) → NumberNames So x → (o : Operation) →
@@ -187,8 +171,8 @@ module _ (stack : List LayerTree) (s : Named) (So : Name → Type 0) (spelled : 
       (λ _. gives_then (QueueSo stack s So spelled) _ (a_queue stack s) _ any_queue (λ q q_is.
       gives_text _ (codes " (") _ (λ _.
       gives_then (AllByRecursion (NumberNames So)) _
-      (each_of (a_number stack s) (items_at stack q.place q.cell).numbers) _
-      (gives_each (NumberNames So) (a_number stack s) any_number (items_at stack q.place q.cell).numbers)
+      (each_of (a_row_number stack s) (items_at stack q.place q.cell).numbers) _
+      (gives_each (NumberNames So) (a_row_number stack s) any_row_number (items_at stack q.place q.cell).numbers)
       (λ numbers numbers_are.
       gives_then (SentNames So) _
       (row_message stack s (q.place + 1) (items_at stack q.place q.cell).numbers
@@ -211,11 +195,13 @@ module _ (stack : List LayerTree) (s : Named) (So : Name → Type 0) (spelled : 
       (λ _. gives_word _ _ (λ direction. gives_known _ (beside directions direction) _ (λ dir.
       gives_text _ (codes " ") _
       (λ _. gives_name _ _ (λ name. gives_known _ (kind_named name) _ (λ kind. gives_text _ (codes "(") _ (λ _.
-      gives_then SentSo _ (what_is_sent s) _ sent_is (λ sent sent_so. gives_text _ (codes ")") _ (λ _.
-      gives_then (SentNames So) _ (chained_after stack s sent.message)
-      (λ message. yields (output dir kind sent.numbers message))
-      (after_is sent.message sent_so.message) (λ message message_is.
-      gives_value (OperationNames So) (output dir kind sent.numbers message) (sent_so.numbers, message_is)))))))))))
+      gives_then (AllByRecursion (AtomNames So)) _ (each_of {B = ℕ} (an_atom s) (replicate (numbers_of kind) 0)) _
+      (gives_each {B = ℕ} (AtomNames So) (an_atom s) atom_is (replicate (numbers_of kind) 0)) (λ numbers numbers_are.
+      gives_then CoreSo _ (event_message s (carries kind)) _ (event_message_is (carries kind)) (λ core core_so.
+      gives_text _ (codes ")") _ (λ _.
+      gives_then (SentNames So) _ (chained_after stack s dir core) (λ message. yields (output dir kind numbers message))
+      (after_is dir core core_so) (λ message message_is.
+      gives_value (OperationNames So) (output dir kind numbers message) (numbers_are, message_is))))))))))))
 
   by_is : (word : List ℕ) → Gives (OperationNames So) (operation_by stack s word)
   by_is word = gives_case (OperationNames So) word (codes "bind") (a_bind stack s) _ bind_is

@@ -1,5 +1,5 @@
 -- Which traces a file holds, or its first line that is out of form.
-use Rattle.std.specs.Prelude.{ℕ, zero, suc, ◌+◌, not, nat_le, List, [], ◌∷◌, ◌++◌, bytes_eq, codes, is_some, Option}
+use Rattle.std.specs.Prelude.{ℕ, zero, suc, not, nat_le, List, [], ◌∷◌, ◌++◌, bytes_eq, codes, is_some, Option}
 use Rattle.std.specs.Prelude.{Some, None, option_map, option_to_list, Result, Ok, Err, if◌then◌else◌}
 use Rattle.std.specs.List.{count_by}
 use Rattle.std.specs.Fmt.{decimal}

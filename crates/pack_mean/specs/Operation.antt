@@ -1,12 +1,16 @@
 -- How the operations of traces are read, each from a line of its own.
-use Rattle.std.specs.Prelude.{ℕ, zero, suc, ◌+◌, ◌==◌, List, [], ◌∷◌, ◌++◌, length, map, take, replicate, bytes_eq}
-use Rattle.std.specs.Prelude.{codes, Option, Some, None, if◌then◌else◌}
+use Rattle.std.specs.Prelude.{ℕ, zero, suc, ◌+◌, ◌==◌, Bool, true, false, List, [], ◌∷◌, ◌++◌, length, map, replicate}
+use Rattle.std.specs.Prelude.{bytes_eq, codes, Option, Some, None, if◌then◌else◌}
 use Rattle.std.specs.Fmt.{decimal}
+use Rattle.layer_words.specs.declared.events.Dir.{Dir}
+use Rattle.layer_words.specs.declared.events.Dir.TheVariants.{Up, Down}
+use Rattle.layer_words.specs.declared.events.Kind.{Kind}
+use Rattle.layer_words.specs.declared.events.Kind.TheVariants.{Stable, Ack}
 use Rattle.layer_words.specs.Signs.{directions}
 use Rattle.layer_words.specs.Spelling.{beside}
+use Rattle.layer_mean.specs.Event.{carries}
 use Rattle.layer_mean.specs.Headers.{header_none}
 use Rattle.layer_mean.specs.Tree.{Carried, LayerTree}
-use Rattle.msg_core.specs.Headers.{most_fields}
 use Rattle.trace_mean.specs.Trace as trace
 use Rattle.trace_mean.specs.Trace.{Atom, Core, TraceNumber, element, square, Link, Chained, Operation, bind, note}
 use Rattle.trace_mean.specs.Trace.{check, set, set_square, push, output}
@@ -91,56 +95,30 @@ row_message stack s place names (Some carried) = do
   m ← a_chained stack s place
   yields (Some m)
 
--- What stands in the brackets of an output: numbers, and a message after these where it has one.
-pub record Sent : Type 0 where
-  pub numbers : List Atom
-  pub message : Option Core
+-- How many numbers an event of a kind has: two for those of two members or counts, and one for all others.
+abbrev pub numbers_of : Kind → ℕ
+numbers_of Stable = 2
+numbers_of Ack = 2
+numbers_of _ = 1
 
--- An output with neither numbers nor a message.
-abbrev pub nothing_sent : Sent
-nothing_sent = record { numbers = []; message = None }
+-- The message of an event after its numbers, where its kind has one.
+abbrev pub event_message : Named → Bool → Reader (Option Core)
+event_message s false = yields None
+event_message s true = do
+  _ ← the_text (codes ",")
+  c ← a_core s
+  yields (Some c)
 
--- An output with one number more, in front of the others.
-abbrev pub with_number : Atom → Sent → Sent
-with_number a sent = record sent { numbers = a ∷ sent.numbers }
+-- The known headers of what is put out: a message that goes down may have some, and what goes up has none.
+abbrev pub chain_towards : List LayerTree → Named → Dir → Reader (List Link)
+chain_towards stack s Down = a_chain stack s 0
+chain_towards stack s Up = yields []
 
--- A name that is an output's message, with nothing after it.
-abbrev pub a_last : Named → List (List ℕ) → Reader Sent
-a_last s name = do
-  c ← option_reader (core_named s name)
-  yields (record { numbers = []; message = Some c })
-
--- What follows after a comma, if one stands here.
-abbrev pub or_no_more : Reader Sent → Reader Sent
-or_no_more more text = if bytes_eq (take 1 text) (codes ",") then (the_text (codes ",") >>= λ _. more) text else Some
-    (nothing_sent, text)
-
--- What a name is, and what follows it: after a number there may be more.
-abbrev pub sent_by : Named → Reader Sent → List (List ℕ) → Option Atom → Reader Sent
-sent_by s more name (Some a) = do
-  sent ← or_no_more more
-  yields (with_number a sent)
-sent_by s more name None = a_last s name
-
--- At most n numbers, and a message.
-abbrev pub sent_within : Named → ℕ → Reader Sent
-sent_within s zero = do
-  name ← a_name
-  a_last s name
-sent_within s (suc left) = do
-  name ← a_name
-  sent_by s (sent_within s left) name (atom_named s name)
-
--- What stands before the closing bracket of an output: nothing, or numbers and a message.
-abbrev pub what_is_sent : Named → Reader Sent
-what_is_sent s text = if bytes_eq (take 1 text) (codes ")") then Some (nothing_sent, text) else sent_within
-    s most_fields text
-
--- Its message, with its known headers after the bracket.
-abbrev pub chained_after : List LayerTree → Named → Option Core → Reader (Option Chained)
-chained_after stack s None = yields None
-chained_after stack s (Some c) = do
-  chain ← a_chain stack s 0
+-- The message that is put out, with its known headers after the bracket.
+abbrev pub chained_after : List LayerTree → Named → Dir → Option Core → Reader (Option Chained)
+chained_after stack s dir None = yields None
+chained_after stack s dir (Some c) = do
+  chain ← chain_towards stack s dir
   yields (Some (record { chain = chain; core = c }))
 
 -- What is set, after its text: a number of a cell.
@@ -180,6 +158,10 @@ a_set stack s = do
   x ← a_number stack s
   option_reader (setting target x)
 
+-- A number of a row that is pushed: it stands in the bracket of the row.
+abbrev pub a_row_number : List LayerTree → Named → Reader TraceNumber
+a_row_number stack s = (inside stack s most_brackets).number
+
 -- A push, after its word: `QUEUE (N,N,MESSAGE)`, with the numbers that the queue's rows have, and a message if they
 -- have one.
 abbrev pub a_push : List LayerTree → Named → Reader Operation
@@ -187,7 +169,7 @@ a_push stack s = do
   _ ← the_text (codes " ")
   q ← a_queue stack s
   _ ← the_text (codes " (")
-  numbers ← each_of (a_number stack s) (items_at stack q.place q.cell).numbers
+  numbers ← each_of (a_row_number stack s) (items_at stack q.place q.cell).numbers
   message ← row_message stack s (q.place + 1) (items_at stack q.place q.cell).numbers
       (items_at stack q.place q.cell).message
   _ ← the_text (codes ")")
@@ -201,7 +183,8 @@ a_take stack s = do
   _ ← the_text (codes " row." ++ decimal (length s.rows))
   yields (trace.take q.place q.cell q.index)
 
--- An output, after its word: `DIRECTION KIND(N,N,MESSAGE)`, and after that the known headers of its message.
+-- An output, after its word: `DIRECTION KIND(N,N,MESSAGE)`, with the numbers and the message that the kind has, and
+-- after that the known headers of a message that goes down.
 abbrev pub an_output : List LayerTree → Named → Reader Operation
 an_output stack s = do
   _ ← the_text (codes " ")
@@ -211,10 +194,11 @@ an_output stack s = do
   name ← a_name
   kind ← option_reader (kind_named name)
   _ ← the_text (codes "(")
-  sent ← what_is_sent s
+  numbers ← each_of {B = ℕ} (an_atom s) (replicate (numbers_of kind) 0)
+  core ← event_message s (carries kind)
   _ ← the_text (codes ")")
-  message ← chained_after stack s sent.message
-  yields (output dir kind sent.numbers message)
+  message ← chained_after stack s dir core
+  yields (output dir kind numbers message)
 
 -- An operation whose first word is this, after the word.
 abbrev pub operation_by : List LayerTree → Named → List ℕ → Reader Operation

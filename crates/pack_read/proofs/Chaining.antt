@@ -2,11 +2,13 @@
 use Rattle.std.proofs.Common.{◌≡◌, ℕ, zero, suc, ◌+◌, ◌-◌, Bool, false, if◌then◌else◌, List, [], ◌∷◌, length, Option}
 use Rattle.std.proofs.Common.{Some, None, Result, Err, refl, sym, ap, subst, ◌∙◌, arith}
 use Rattle.std.specs.Prelude.{option_and_then}
+use Rattle.layer_words.specs.declared.events.Dir.{Dir}
+use Rattle.layer_words.specs.declared.events.Dir.TheVariants.{Up}
 use Rattle.layer_mean.specs.Tree.{LayerTree}
 use Rattle.trace_mean.specs.Trace as trace
 use Rattle.pack_mean.specs.Reader.{◌>>=◌, yields}
 use Rattle.pack_mean.specs.Named.{Named}
-use Rattle.pack_mean.specs.Operation.{a_link, links_after, some_links, a_chain}
+use Rattle.pack_mean.specs.Operation.{a_link, links_after, some_links, a_chain, chain_towards}
 use Rattle.trace_core.specs.declared.links.Link.{Link}
 use Rattle.trace_core.specs.Links.{IsChain, Linked, chain_in, chains}
 use Rattle.trace_core.proofs.Chains.{chain_found, chain_there, chains_long, empty_chain}
@@ -30,6 +32,12 @@ no_chain ls text = record {
   more =
       none_more ls;
 }
+
+-- What goes up has no headers.
+pub towards_up : (stack : List LayerTree) (s : Named) (dir : Dir) (text : List ℕ) (ls : List Link) → dir ≡ Up →
+    ChainRead (chain_towards stack s dir text) ls ls text 0
+towards_up stack s dir text ls is = subst (λ d. ChainRead (chain_towards stack s d text) ls ls text 0) (sym is)
+    (no_chain ls text)
 
 pub no_places : (stack : List LayerTree) (s : Named) (place n : ℕ) (text : List ℕ) (ls : List Link) → n ≡ 0 →
     ChainRead (links_after stack s place n text) ls ls text 0

@@ -18,7 +18,7 @@ use Rattle.pack_read.specs.declared.queued.PackedQueue.{PackedQueue}
 use Rattle.pack_read.specs.declared.sort.Sort.{Sort}
 use Rattle.pack_read.specs.Sorts.{queue_by_sort, sort_of}
 use Rattle.pack_read.proofs.Cells.{no_queue_by, queue_by}
-use Rattle.pack_read.specs.Inside.{inner}
+use Rattle.pack_read.specs.Inside.{in_row, inner}
 use Rattle.pack_read.specs.declared.targeted.Target.{Target}
 use Rattle.pack_read.specs.Expressions.{ReadsMessage, ReadsNumber, ReadsQueue, ReadsTarget, a_target}
 
@@ -126,6 +126,11 @@ module _ (s : Scope) (t : List ℕ) where
         ReadsNumber (a_number (layers_in s) (named_in s) t) a b t1 r
     unfolding inner
     number_whole r h = h
+
+    pub row_number_whole : (r : Result ℕ LineError) → ReadsNumber ((inner s most_brackets).number t) a b t1 r →
+        ReadsNumber (in_row s t) a b t1 r
+    unfolding inner in_row
+    row_number_whole r h = h
 
     pub message_whole : (r : Result ℕ LineError) → ReadsMessage ((inner s (suc most_brackets)).message t) a b t1 r →
         ReadsMessage (a_message (layers_in s) (named_in s) t) a b t1 r

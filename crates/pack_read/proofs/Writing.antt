@@ -26,9 +26,11 @@ use Rattle.pack_read.specs.declared.queued.PackedQueue.{PackedQueue}
 use Rattle.pack_words.specs.declared.error.LineError.{LineError}
 use Rattle.pack_words.specs.declared.spot.Spot.{Spot}
 use Rattle.pack_words.specs.Reading.{Takes}
-use Rattle.pack_words.specs.View.{row_of}
+use Rattle.pack_words.specs.View.{layers_in, named_in, row_of}
+use Rattle.pack_words.specs.declared.scope.Scope.{Scope}
+use Rattle.pack_read.specs.Inside.{in_row}
 use Rattle.pack_read.specs.declared.store.Store.{Store}
-use Rattle.pack_read.specs.Operations.{MessageRead, NumbersRead, OperationRead, set_of}
+use Rattle.pack_read.specs.Operations.{MessageRead, NumbersRead, OperationRead, ReadsOperation, pushed_by, set_of}
 use Rattle.trace_core.proofs.Growing.{made_more, more_then, number_stays, same_more}
 
 -- the number of a row that is taken
@@ -99,29 +101,31 @@ set_read stack s t0 t1 t2 t3 t4 old new nodes (targets.Square spot row column) v
     })
 
 -- What is pushed, after its queue and a bracket.
-abbrev pushed_on : List LayerTree → Named → QueueNamed → Reader trace.Operation
-pushed_on stack s q =
-    each_of (a_number stack s) (items_at stack q.place q.cell).numbers >>= λ numbers.
+abbrev pushed_on : List LayerTree → Named → Reader TraceNumber → QueueNamed → Reader trace.Operation
+pushed_on stack s read q =
+    each_of read (items_at stack q.place q.cell).numbers >>= λ numbers.
     (operation.row_message stack s (q.place + 1) (items_at stack q.place q.cell).numbers
     (items_at stack q.place q.cell).message >>= λ message.
     (the_text (codes ")") >>= λ _. yields (trace.push q.place q.cell q.index numbers message)))
 
-push_parts : (stack : List LayerTree) (s : Named) (t0 t1 t2 t3 t4 t5 t6 : List ℕ) (q : QueueNamed)
+push_parts : (stack : List LayerTree) (s : Named) (read : Reader TraceNumber) (t0 t1 t2 t3 t4 t5 t6 : List ℕ)
+    (q : QueueNamed)
     (ns : List TraceNumber)
     (m : Option trace.Chained) →
     the_text (codes " ") t0 ≡ Some (tt, t1) → a_queue stack s t1 ≡ Some (q, t2) →
     the_text (codes " (") t2 ≡ Some (tt, t3) →
-    each_of (a_number stack s) (items_at stack q.place q.cell).numbers t3 ≡ Some (ns, t4) →
+    each_of read (items_at stack q.place q.cell).numbers t3 ≡ Some (ns, t4) →
     operation.row_message stack s (q.place + 1) (items_at stack q.place q.cell).numbers
     (items_at stack q.place q.cell).message t4 ≡ Some (m, t5) →
-    the_text (codes ")") t5 ≡ Some (tt, t6) → operation.a_push stack s t0 ≡
+    the_text (codes ")") t5 ≡ Some (tt, t6) → pushed_by stack s read t0 ≡
     Some (trace.push q.place q.cell q.index ns m, t6)
-push_parts stack s t0 t1 t2 t3 t4 t5 t6 q ns m space queue opens numbers message closes =
+push_parts stack s read t0 t1 t2 t3 t4 t5 t6 q ns m space queue opens numbers message closes =
     ap (option_and_then (λ (z : Unit {0} × List ℕ).
-    (a_queue stack s >>= λ w. (the_text (codes " (") >>= λ _. pushed_on stack s w)) z.1)) space
-    ∙ ap (option_and_then (λ (z : QueueNamed × List ℕ). (the_text (codes " (") >>= λ _. pushed_on stack s z.0) z.1))
+    (a_queue stack s >>= λ w. (the_text (codes " (") >>= λ _. pushed_on stack s read w)) z.1)) space
+    ∙ ap (option_and_then (λ (z : QueueNamed × List ℕ). (the_text (codes " (") >>= λ _. pushed_on stack s read z.0)
+    z.1))
     queue
-    ∙ ap (option_and_then (λ (z : Unit {0} × List ℕ). pushed_on stack s q z.1)) opens
+    ∙ ap (option_and_then (λ (z : Unit {0} × List ℕ). pushed_on stack s read q z.1)) opens
     ∙ ap (option_and_then (λ (z : List TraceNumber × List ℕ).
     (operation.row_message stack s (q.place + 1) (items_at stack q.place q.cell).numbers
     (items_at stack q.place q.cell).message >>= λ w.
@@ -130,22 +134,30 @@ push_parts stack s t0 t1 t2 t3 t4 t5 t6 q ns m space queue opens numbers message
     (trace.push q.place q.cell q.index ns z.0)) z.1)) message
     ∙ ap (option_and_then (λ (z : Unit {0} × List ℕ). Some (trace.push q.place q.cell q.index ns m, z.1))) closes
 
-pub push_read : (stack : List LayerTree) (s : Named) (t0 t1 t2 t3 t4 t5 t6 : List ℕ) (old new : Store)
+-- What is pushed is read as the definition has it.
+pub push_whole : (s : Scope) (t : List ℕ) (old new : Store) (after : List ℕ) (r : Result Operation LineError) →
+    ReadsOperation (pushed_by (layers_in s) (named_in s) (in_row s) t) old new after r →
+    ReadsOperation (operation.a_push (layers_in s) (named_in s) t) old new after r
+unfolding in_row
+push_whole s t old new after r h = h
+
+pub push_read : (stack : List LayerTree) (s : Named) (read : Reader TraceNumber) (t0 t1 t2 t3 t4 t5 t6 : List ℕ)
+    (old new : Store)
     (nodes : List Node) (q : PackedQueue) (ks : List ℕ)
     (m : Option Chained) (items : ItemsTree) → the_text (codes " ") t0 ≡ Some (tt, t1) →
     QueueRead (a_queue stack s t1) old.nodes nodes t2 q →
     the_text (codes " (") t2 ≡ Some (tt, t3) → items ≡ items_at stack q.spot.place q.spot.cell →
-    NumbersRead (each_of (a_number stack s) items.numbers t3) nodes new.nodes t4 [] ks →
+    NumbersRead (each_of read items.numbers t3) nodes new.nodes t4 [] ks →
     MessageRead (operation.row_message stack s (q.spot.place + 1) items.numbers items.message t4) old.links new.links t5
     m →
     the_text (codes ")") t5 ≡ Some (tt, t6) →
-    OperationRead (operation.a_push stack s t0) old new t6 (operations.Push q.spot.place q.spot.cell q.index ks m)
-push_read stack s t0 t1 t2 t3 t4 t5 t6 old new nodes q ks m items space queue opens e numbers message closes =
+    OperationRead (pushed_by stack s read t0) old new t6 (operations.Push q.spot.place q.spot.cell q.index ks m)
+push_read stack s read t0 t1 t2 t3 t4 t5 t6 old new nodes q ks m items space queue opens e numbers message closes =
     let kept = number_stays {a = nodes} {b = new.nodes} {k = q.index} (number_made queue.made) numbers.more in
     record {
-      is = push_parts stack s t0 t1 t2 t3 t4 t5 t6 (queue_in (terms nodes) q) numbers.rest
+      is = push_parts stack s read t0 t1 t2 t3 t4 t5 t6 (queue_in (terms nodes) q) numbers.rest
           (option_map (chained_in (chains new.links)) m) space queue.is opens
-          (ap (λ z. each_of (a_number stack s) z.numbers t3) (sym e) ∙ numbers.is)
+          (ap (λ z. each_of read z.numbers t3) (sym e) ∙ numbers.is)
           (ap (λ z. operation.row_message stack s (q.spot.place + 1) z.numbers z.message t4) (sym e) ∙ message.is)
           closes
           ∙ sym (λ i. Some (

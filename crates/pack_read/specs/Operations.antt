@@ -1,14 +1,16 @@
 -- What the readers of an operation's parts answer.
-use Rattle.std.specs.Prelude.{ℕ, ◌≡◌, List, ◌++◌, map, option_map, Option, Some, None, Result, Ok, Err}
+use Rattle.std.specs.Prelude.{ℕ, ◌≡◌, ◌+◌, List, ◌++◌, map, codes, option_map, Option, Some, None, Result, Ok, Err}
+use Rattle.layer_mean.specs.Tree.{LayerTree}
 use Rattle.trace_mean.specs.Trace as trace
 use Rattle.trace_mean.specs.Trace.{TraceNumber}
 use Rattle.layer_words.specs.declared.events.Dir.{Dir}
 use Rattle.layer_words.specs.declared.events.Kind.{Kind}
 use Rattle.layer_words.specs.Spelling.{beside}
-use Rattle.pack_mean.specs.Named.{kind_named}
-use Rattle.pack_mean.specs.Operation as operation
+use Rattle.pack_mean.specs.Named.{Named, items_at, kind_named}
+use Rattle.pack_mean.specs.Expression.{a_queue}
+use Rattle.pack_mean.specs.Operation.{row_message}
 use Rattle.layer_words.specs.Signs.{directions}
-use Rattle.pack_mean.specs.Reader.{Reader, ◌>>=◌, option_reader, a_name, a_word}
+use Rattle.pack_mean.specs.Reader.{Reader, ◌>>=◌, yields, option_reader, the_text, a_name, a_word, each_of}
 use Rattle.trace_core.specs.declared.node.Atom.{Atom}
 use Rattle.trace_core.specs.declared.node.Node.{Node}
 use Rattle.trace_core.specs.declared.links.Link.{Link}
@@ -18,14 +20,13 @@ use Rattle.trace_core.specs.declared.operation.Operation.TheVariants as operatio
 use Rattle.pack_read.specs.declared.targeted.Target.{Target}
 use Rattle.pack_read.specs.declared.targeted.Target.TheVariants as targets
 use Rattle.trace_core.specs.Grown.{Grown}
-use Rattle.trace_core.specs.View.{atom_tree, core_tree, number_in, terms}
+use Rattle.trace_core.specs.View.{atom_tree, number_in, terms}
 use Rattle.trace_core.specs.Links.{IsChain, chain_in, chains}
 use Rattle.trace_core.specs.Operations.{AllNumbers, HasChain, IsPart, chained_in, operation_in}
 use Rattle.pack_words.specs.declared.error.LineError.{LineError}
 use Rattle.pack_words.specs.declared.error.LineError.TheVariants.{Form, Memory}
 use Rattle.pack_read.specs.declared.store.Store.{Store}
 use Rattle.pack_read.specs.declared.header.Header.{Header}
-use Rattle.pack_read.specs.declared.sent.Sent.{Sent}
 
 -- What a reader took from the front, as the definitions see it, and the bytes after it; or that it takes nothing. Want
 -- of memory says nothing.
@@ -104,19 +105,6 @@ ReadsMessage taken old new after (Ok m) = MessageRead taken old new after m
 ReadsMessage taken old new after (Err Form) = taken ≡ None
 ReadsMessage taken old new after (Err Memory) = Unit {0}
 
--- What is sent, after the numbers in front.
-pub record SentRead (taken : Option (operation.Sent × List ℕ)) (front : List Atom) (after : List ℕ) (sent : Sent) : Type
-    0 where
-  pub rest : operation.Sent
-  pub is : taken ≡ Some (rest, after)
-  pub numbers_are : map atom_tree sent.numbers ≡ map atom_tree front ++ rest.numbers
-  pub message_is : option_map core_tree sent.message ≡ rest.message
-
-abbrev pub ReadsSent : Option (operation.Sent × List ℕ) → List Atom → Result Sent LineError → List ℕ → Type 0
-ReadsSent taken front (Ok sent) after = SentRead taken front after sent
-ReadsSent taken front (Err Form) after = taken ≡ None
-ReadsSent taken front (Err Memory) after = Unit {0}
-
 -- Numbers that a reader took stand after those in front: nodes were added.
 pub record NumbersRead (taken : Option (List TraceNumber × List ℕ)) (old new : List Node) (after : List ℕ)
     (front all : List ℕ) : Type 0 where
@@ -136,6 +124,18 @@ ReadsNumbers taken old new after front (Err Memory) = Unit {0}
 abbrev pub set_of : Target → ℕ → Operation
 set_of (targets.Element spot index) value = operations.Set spot.place spot.cell index value
 set_of (targets.Square spot row column) value = operations.SetSquare spot.place spot.cell row column value
+
+-- A row that is pushed, by how its numbers are read.
+abbrev pub pushed_by : List LayerTree → Named → Reader TraceNumber → Reader trace.Operation
+pushed_by stack s read = do
+  _ ← the_text (codes " ")
+  q ← a_queue stack s
+  _ ← the_text (codes " (")
+  numbers ← each_of read (items_at stack q.place q.cell).numbers
+  message ← row_message stack s (q.place + 1) (items_at stack q.place q.cell).numbers
+      (items_at stack q.place q.cell).message
+  _ ← the_text (codes ")")
+  yields (trace.push q.place q.cell q.index numbers message)
 
 -- An operation that a reader took, with the nodes and links that were added for it.
 pub record OperationRead (taken : Option (trace.Operation × List ℕ)) (old new : Store) (after : List ℕ) (o : Operation)

@@ -6,7 +6,8 @@ ghost use Rattle.pack_mean.specs.Operation as operation;
 ghost use Rattle.pack_mean.specs.Reader as reader;
 ghost use Rattle.pack_words.specs.Reading.{Takes, left};
 ghost use Rattle.pack_words.specs.View.{layers_in, named_in};
-ghost use Rattle.pack_read.specs.Operations.{ReadsOperation};
+ghost use Rattle.pack_read.specs.Inside.{in_row};
+ghost use Rattle.pack_read.specs.Operations.{ReadsOperation, pushed_by};
 
 use crate::read::queue;
 use crate::row::{row_message, row_numbers};
@@ -14,14 +15,14 @@ use crate::store::Store;
 use pack_words::{LineError, Scope, Text, items_named};
 use trace_core::Operation;
 
-/// A row that is pushed, after `push`.
-pub(crate) fn push(
+/// A row that is pushed, by its queue, its numbers and its message.
+fn pushed_row(
     text: &mut Text<'_>,
     scope: &Scope<'_>,
     store: &mut Store,
 ) -> Result<Operation, LineError>
-    ensures { ReadsOperation (operation.a_push (layers_in scope.now) (named_in scope.now) (left text.old)) store.old
-        store.new (left text.new) result }
+    ensures { ReadsOperation (pushed_by (layers_in scope.now) (named_in scope.now) (in_row scope.now) (left text.old))
+        store.old store.new (left text.new) result }
 {
     text.the(b" ")?;
     let queue = queue(text, scope, &mut store.nodes)?;
@@ -38,6 +39,18 @@ pub(crate) fn push(
         numbers,
         message,
     })
+}
+
+/// A row that is pushed, after `push`.
+pub(crate) fn push(
+    text: &mut Text<'_>,
+    scope: &Scope<'_>,
+    store: &mut Store,
+) -> Result<Operation, LineError>
+    ensures { ReadsOperation (operation.a_push (layers_in scope.now) (named_in scope.now) (left text.old)) store.old
+        store.new (left text.new) result }
+{
+    pushed_row(text, scope, store)
 }
 
 /// The name of the row that is taken next, after its front.
