@@ -52,14 +52,14 @@ module _ (r : Request) (told : Option Shelved) (reads reads_after : ℕ) where
   large h sound = let l = longer told r.file LONGEST_REPORT h in record {
     file = l.0;
     found = l.1;
-    refused = ap (λ b. if b then Err too_large else report_picture r.range (lines_of l.0)
+    refused = ap (λ b. if b then Err too_large else report_picture r.excerpt (lines_of l.0)
         (report_from running 1 (lines_of l.0)))
         (lt-ltb LONGEST_REPORT (length l.0) l.2);
     sound = sound;
   }
 
   none : (file : List ℕ) (end : ChartEnding) → IsFound r told reads reads_after file →
-      IsNone (chart_of r.range file) end → StopsAt r told reads reads_after end
+      IsNone (chart_of r.excerpt file) end → StopsAt r told reads reads_after end
   none file TooLarge f c = record { file = file; found = f.found; refused = c; sound = f.sound }
   none file (Line number) f c = record { file = file; found = f.found; refused = c; sound = f.sound }
   none file Memory f c = tt
@@ -70,7 +70,7 @@ module _ (r : Request) (told : Option Shelved) (reads reads_after : ℕ) where
 
   -- what came of the file that was found
   pub fetched : (file : List ℕ) (answer : Result (Vec ℕ Global) ChartEnding) → IsFound r told reads reads_after file →
-      Charts (chart_of r.range file) answer → Fetches r told reads reads_after answer
+      Charts (chart_of r.excerpt file) answer → Fetches r told reads reads_after answer
   fetched file (Ok picture) f c = record { file = file; found = f.found; charted = c; sound = f.sound }
   fetched file (Err end) f c = none file end f c
 

@@ -1,10 +1,11 @@
 -- A member's stays, line by line.
-use Rattle.std.proofs.Common.{◌≡◌, sym, ap, ◌∙◌, ℕ, ◌+◌, ◌<◌, ◌≤◌, List, ◌++◌, length, drop, get_or, append_assoc, Some}
-use Rattle.std.proofs.Common.{None}
+use Rattle.std.proofs.Common.{◌≡◌, sym, ap, ◌∙◌, ℕ, suc, arith, ◌+◌, ◌<◌, ◌≤◌, List, ◌++◌, length, drop, get_or}
+use Rattle.std.proofs.Common.{append_assoc, Some, None}
 use Rattle.std.specs.Prelude.{map}
 use Rattle.std.proofs.lemmas.List.{drop_more, drop_all}
 use Rattle.chart_mean.specs.Place as spec
-use Rattle.chart_mean.specs.Row.{stay_of, stay_turn, turn_at, turns_at, stay_band, stays}
+use Rattle.msg_core.specs.declared.packet.View.{View}
+use Rattle.chart_mean.specs.Row.{members_below, ranked_in, stay_of, stay_turn, turn_at, turns_at, stay_band, stays}
 use Rattle.chart_mean.specs.declared.types.Stay.{Stay}
 use Rattle.chart_mean.specs.declared.types.Turn.{Turn}
 use Rattle.chart_draw.specs.Reading.{line_shown}
@@ -54,3 +55,11 @@ pub stays_last : (member end : ℕ) (turn : Turn) (lines : List DrawnLine) (i : 
     stays_from member end turn lines i ≡ stay_band member turn.x end turn.stay
 stays_last member end turn lines i le = ap (λ ls. stays member end turn (turns_at member (map line_shown ls)))
     (drop_all i lines le)
+
+-- one more member of a view
+pub members_more : (view : View) (id : ℕ) (start text longer : List ℕ) → text ≡ start ++ members_below view id →
+    longer ≡ text ++ ranked_in view id → longer ≡ start ++ members_below view (id + 1)
+members_more view id start text longer is put =
+    let at : id + 1 ≡ suc id = omega arith in
+    put ∙ ap (λ t. t ++ ranked_in view id) is ∙ append_assoc start (members_below view id) (ranked_in view id)
+    ∙ sym (ap (λ n. start ++ members_below view n) at)

@@ -11,7 +11,7 @@ use Rattle.outside.specs.Shelf.{Shelved, found_in}
 use Rattle.outside.specs.Tells.{Tells}
 use Rattle.chart_mean.specs.Picture.{range_picture, chart_of}
 use Rattle.chart_mean.specs.Words.{Request}
-use Rattle.chart_mean.specs.declared.types.Range.{Range}
+use Rattle.chart_mean.specs.Excerpt.{Excerpt}
 use Rattle.chart_mean.specs.declared.types.ChartEnding.{ChartEnding}
 use Rattle.chart_mean.specs.declared.types.ChartEnding.TheVariants.{Done, TooLarge, Line, Read, Write, Memory}
 
@@ -28,10 +28,10 @@ Charts charted (Ok picture) = charted ≡ Ok picture.items
 Charts charted (Err ending) = IsNone charted ending
 
 -- a text is a report, so that it has a picture and isn't too large; or why not
-abbrev pub IsReport : Range → List ℕ → Result (Unit {0}) ChartEnding → Type 0
-IsReport range text (Ok done) = (length text ≤ 67108864) ×
-    (chart_of range text ≡ Ok (range_picture range (lines_of text)))
-IsReport range text (Err ending) = IsNone (chart_of range text) ending
+abbrev pub IsReport : Excerpt → List ℕ → Result (Unit {0}) ChartEnding → Type 0
+IsReport excerpt text (Ok done) = (length text ≤ 67108864) ×
+    (chart_of excerpt text ≡ Ok (range_picture excerpt (lines_of text)))
+IsReport excerpt text (Err ending) = IsNone (chart_of excerpt text) ending
 
 -- the next read of this name found these bytes
 pub record IsFound (r : Request) (told : Option Shelved) (reads reads_after : ℕ) (file : List ℕ) : Type 0 where
@@ -42,14 +42,14 @@ pub record IsFound (r : Request) (told : Option Shelved) (reads reads_after : �
 pub record IsPicture (r : Request) (told : Option Shelved) (reads reads_after : ℕ) (picture : List ℕ) : Type 0 where
   pub file : List ℕ
   pub found : IfSome told (λ shelf. found_in shelf r.file ≡ Some file)
-  pub charted : chart_of r.range file ≡ Ok picture
+  pub charted : chart_of r.excerpt file ≡ Ok picture
   pub sound : reads_after ≡ reads
 
 -- it found what is no report, for this fault
 pub record IsRefused (r : Request) (told : Option Shelved) (reads reads_after : ℕ) (fault : AuditFault) : Type 0 where
   pub file : List ℕ
   pub found : IfSome told (λ shelf. found_in shelf r.file ≡ Some file)
-  pub refused : chart_of r.range file ≡ Err fault
+  pub refused : chart_of r.excerpt file ≡ Err fault
   pub sound : reads_after ≡ reads
 
 -- it found none, and the count of the shelf's faults rose

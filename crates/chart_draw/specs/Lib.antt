@@ -2,3 +2,4 @@ pub mod Reading
 pub mod Bearers
 pub mod Charts
 pub mod Turns
+pub mod Scenes

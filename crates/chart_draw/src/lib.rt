@@ -6,6 +6,7 @@
 #![tactic(auto)]
 
 mod kinds;
+mod labels;
 mod lines;
 mod marks;
 mod over_sinks;
@@ -16,6 +17,7 @@ mod rows;
 mod saying;
 mod says;
 mod streams;
+mod stubs;
 mod style;
 mod system;
 mod text;

@@ -78,7 +78,7 @@ fn fetch<S: Shelf>(
         result }
 {
     let text = fetch_text(alloc, request, shelf)?;
-    chart(alloc, &text, request.range)
+    chart(alloc, &text, request.excerpt)
 }
 
 /// Reads a file, which is to be a report, or answers how the program ends.

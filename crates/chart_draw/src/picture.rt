@@ -2,34 +2,43 @@
 ghost use Rattle.std.specs.Prelude.{◌≡◌, ◌++◌, ◌≤◌, IfOk, Ok, OnOk, length, map};
 ghost use Rattle.audit_mean.specs.Text.{lines_of};
 ghost use Rattle.chart_mean.specs.Picture as spec;
-ghost use Rattle.chart_mean.specs.declared.types.Range.{Range};
-ghost use Rattle.chart_draw.specs.Reading.{line_shown};
+ghost use Rattle.chart_mean.specs.Excerpt as excerpts;
+ghost use Rattle.chart_draw.specs.Reading.{excerpt_shown, line_shown, manner_shown};
 ghost use Rattle.chart_draw.specs.Charts.{Charts, IsReport};
 
-use crate::lines::{DrawnLine, all_lines, count_rows, end_of, in_range, placed};
-use crate::marks::draw_marks;
+use crate::lines::{DrawnLine, Layout, all_lines, are_told, count_rows, in_range, placed};
+use crate::marks::{Manner, draw_marks};
 use crate::place::{AXIS, LEFT, down};
 use crate::rows::draw_rows;
+use crate::stubs::draw_stubs;
 use crate::style::style;
 use crate::text::{Ends, Text};
+use crate::words::Excerpt;
 use audit_judge::{AuditError, Law, audit};
-use chart_mean::{ChartEnding, Range};
+use chart_mean::ChartEnding;
 use std::alloc::{AllocError, Global};
 
-/// The picture of a range of a text, or how the program that is to draw it ends. The texts of which there is one are
+/// A picture is as wide as its legend at least.
+const LEGEND_WIDTH: u64 = 830;
+
+/// The picture of an excerpt of a text, or how the program that is to draw it ends. The texts of which there is one are
 /// those that an audit takes, by whichever law.
-pub(crate) fn chart(alloc: Global, text: &[u8], range: Range) -> Result<Vec<u8>, ChartEnding>
-    ensures { Charts (spec.chart_of range text.now) result }
+pub(crate) fn chart(
+    alloc: Global,
+    text: &[u8],
+    excerpt: Excerpt<'_>,
+) -> Result<Vec<u8>, ChartEnding>
+    ensures { Charts (spec.chart_of (excerpt_shown excerpt.entry) text.now) result }
 {
     match report(alloc, text) {
-        Ok(()) => drawn(alloc, text, range),
+        Ok(()) => drawn(alloc, text, excerpt),
         Err(ending) => Err(ending),
     }
 }
 
 /// Whether a text is a report; if it isn't, how the program ends.
 fn report(alloc: Global, text: &[u8]) -> Result<(), ChartEnding>
-    ensures { (range : Range) → IsReport range text.now result }
+    ensures { (excerpt : excerpts.Excerpt) → IsReport excerpt text.now result }
 {
     match audit(alloc, text, Law::Sender) {
         Ok(_) => Ok(()),
@@ -40,37 +49,62 @@ fn report(alloc: Global, text: &[u8]) -> Result<(), ChartEnding>
 }
 
 /// The picture of a range of a report, unless memory runs out.
-fn drawn(alloc: Global, text: &[u8], range: Range) -> Result<Vec<u8>, ChartEnding>
-    requires { IsReport range text.now (Ok tt) }
-    ensures { Charts (spec.chart_of range text.now) result }
+fn drawn(alloc: Global, text: &[u8], excerpt: Excerpt<'_>) -> Result<Vec<u8>, ChartEnding>
+    requires { IsReport (excerpt_shown excerpt) text.now (Ok tt) }
+    ensures { Charts (spec.chart_of (excerpt_shown excerpt.entry) text.now) result }
 {
-    Ok(draw(alloc, text, range)?)
+    Ok(draw(alloc, text, excerpt)?)
 }
 
-fn draw(alloc: Global, text: &[u8], range: Range) -> Result<Vec<u8>, AllocError>
+fn draw(alloc: Global, text: &[u8], excerpt: Excerpt<'_>) -> Result<Vec<u8>, AllocError>
     requires { length text.now ≤ 67108864 }
-    ensures { IfOk result (λ picture. picture.items ≡ spec.range_picture range (lines_of text.now)) }
+    ensures { IfOk result
+        (λ picture. picture.items ≡ spec.range_picture (excerpt_shown excerpt.entry) (lines_of text.now)) }
 {
     let texts = all_lines(alloc, text)?;
-    let lines = placed(alloc, range.first, in_range(range, &texts))?;
+    let layout = placed(
+        alloc,
+        excerpt.hide,
+        excerpt.first,
+        in_range(excerpt, &texts),
+    )?;
     let mut picture = Text::new(alloc);
-    draw_picture(alloc, &lines, &mut picture)?;
+    draw_picture(alloc, excerpt, &layout, &mut picture)?;
     Ok(picture.into_bytes())
 }
 
-/// Appends the picture of these lines.
-fn draw_picture(alloc: Global, lines: &[DrawnLine<'_>], text: &mut Text) -> Result<(), AllocError>
-    requires { length lines.now ≤ 67108865 }
-    ensures { OnOk result (text.new ≡ text.old ++ spec.picture (map line_shown lines.now)) }
+/// Appends the picture of these lines, as an excerpt asks for it.
+fn draw_picture(
+    alloc: Global,
+    excerpt: Excerpt<'_>,
+    layout: &Layout<'_>,
+    text: &mut Text,
+) -> Result<(), AllocError>
+    requires { layout.now.end ≤ 25367151022 }
+    ensures { OnOk result
+        (text.new ≡ text.old
+        ++ spec.picture (excerpt_shown excerpt.entry) layout.now.end (map line_shown layout.now.lines.items)) }
 {
-    let end = end_of(lines);
+    let lines = layout.lines.as_slice();
     let rows = count_rows(lines);
-    draw_opening(end + 100, down(rows), text)?;
+    draw_opening(LEGEND_WIDTH.max(layout.end + 100), down(rows), text)?;
     text.put(style())?;
-    draw_axis(end, text)?;
-    draw_rows(rows, end, lines, text)?;
-    draw_marks(alloc, lines, text)?;
+    draw_axis(layout.end, text)?;
+    draw_rows(rows, layout.end, lines, text)?;
+    draw_stubs(alloc, rows, lines, text)?;
+    draw_marks(alloc, manner_of(excerpt, lines), lines, text)?;
     text.put(b"</svg>\n")
+}
+
+/// How marks are drawn: by whether the lines tell of receptions, and by what is asked.
+fn manner_of<'e>(excerpt: Excerpt<'e>, lines: &[DrawnLine<'_>]) -> Manner<'e>
+    ensures { manner_shown result ≡ spec.manner_of (excerpt_shown excerpt.entry) (map line_shown lines.now) }
+{
+    Manner {
+        told: are_told(lines),
+        breach: excerpt.breach,
+        hide: excerpt.hide,
+    }
 }
 
 /// Appends the first line of a picture of this width and height in pixels.

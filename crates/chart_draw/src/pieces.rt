@@ -1,5 +1,6 @@
 //! The lines of a text, and the words on a line.
-ghost use Rattle.std.specs.Prelude.{◌≡◌};
+ghost use Rattle.std.specs.Prelude.{◌≡◌, ◌==◌, drop};
+ghost use Rattle.std.specs.List.{slice_split};
 ghost use Rattle.std.specs.Iterator.{YieldsFirstRef, item_count};
 ghost use Rattle.script_mean.specs.Words.{words_of};
 ghost use Rattle.script_mean.specs.Form as form;
@@ -46,6 +47,34 @@ impl<'a> Pieces<'a> {
         }
     }
 
+    /// The parts of a header: its layer's name, which a dot ends, and what stands after it.
+    pub(crate) fn dotted(header: &'a [u8]) -> Pieces<'a>
+        ensures { pieces_left result ≡ slice_split (λ byte. byte == 46) header.now }
+    {
+        Pieces {
+            at: b'.',
+            rest: Some(header),
+        }
+    }
+
+    /// The parts of a header after its layer's name, which a dot ends.
+    pub(crate) fn after_layer(header: &'a [u8]) -> Pieces<'a>
+        ensures { pieces_left result ≡ drop 1 (slice_split (λ byte. byte == 46) header.now) }
+    {
+        let (_layer, rest) = cut(b'.', header);
+        Pieces { at: b'.', rest }
+    }
+
+    /// The headers of a packet.
+    pub(crate) fn headers(chain: &'a [u8]) -> Pieces<'a>
+        ensures { pieces_left result ≡ slice_split (λ byte. byte == 47) chain.now }
+    {
+        Pieces {
+            at: b'/',
+            rest: Some(chain),
+        }
+    }
+
     /// The next word, as a member.
     pub(crate) fn member(&mut self) -> Option<u8>
         ensures { Takes (audit.a_member (pieces_left self.old)) result (pieces_left self.new) }
@@ -76,6 +105,17 @@ impl<'a> Pieces<'a> {
     {
         let word = self.next()?;
         if is_kind(word) { Some(word) } else { None }
+    }
+
+    /// The next word, which isn't taken, or an empty one.
+    pub(crate) fn first(&self) -> &'a [u8]
+        ensures { result.now ≡ spec.first_word (pieces_left self.now) }
+    {
+        let mut words = *self;
+        match words.next() {
+            Some(word) => word,
+            None => b"",
+        }
     }
 
     /// Whether no word is left: None where there is one.

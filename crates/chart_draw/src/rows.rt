@@ -1,5 +1,5 @@
 //! The rows of members.
-ghost use Rattle.std.specs.Prelude.{◌≡◌, ◌==◌, ◌++◌, IfOk, None, OnOk, Some, if◌then◌else◌, map};
+ghost use Rattle.std.specs.Prelude.{◌≡◌, ◌==◌, ◌++◌, [], IfOk, None, OnOk, Some, codes, if◌then◌else◌, map};
 ghost use Rattle.chart_mean.specs.Row as spec;
 ghost use Rattle.chart_draw.specs.Reading.{line_shown, says_shown};
 ghost use Rattle.chart_draw.specs.Turns.{TurnsTo};
@@ -9,7 +9,9 @@ use crate::place::{LEFT, down};
 use crate::says::Says;
 use crate::text::{Ends, Text};
 use chart_mean::{Stay, Turn};
+use msg_core::{MOST_MEMBERS, View};
 use std::alloc::AllocError;
+use view_masks::rank;
 
 /// How many tints the bands of views have.
 const TINTS: u32 = 6;
@@ -169,12 +171,51 @@ fn draw_midst(member: u32, x: u64, end: u64, text: &mut Text) -> Result<(), Allo
     text.put_line(b"<line", ends, b"/>")
 }
 
-/// Appends a band's label: the view's logical time and its mask.
+/// Appends a band's label: the view's logical time and its members.
 fn draw_label(member: u32, x: u64, ltime: u32, mask: u32, text: &mut Text) -> Result<(), AllocError>
     ensures { OnOk result (text.new ≡ text.old ++ spec.label member x ltime mask) }
 {
     text.put_at(b"<text", x, down(member) - 16)?;
     text.put_number(b" dx='4'>view ", u64::from(ltime))?;
-    text.put_number(b" mask ", u64::from(mask))?;
-    text.put(b"</text>")
+    text.put(b" {")?;
+    put_members(View { ltime, mask }, MOST_MEMBERS, text)?;
+    text.put(b"}</text>")
+}
+
+/// Appends the members of a view that are below a number.
+fn put_members(view: View, most: u8, text: &mut Text) -> Result<(), AllocError>
+    ensures { OnOk result (text.new ≡ text.old ++ spec.members_below view most) }
+{
+    for id in 0..most {
+        put_member(view, id, text)?;
+    }
+    Ok(())
+}
+
+/// Appends a member, if a view has it, with a comma before it unless it is the view's first.
+#[tactic(auto, unfolding(chart_mean::specs::Row::ranked_in))]
+fn put_member(view: View, id: u8, text: &mut Text) -> Result<(), AllocError>
+    ensures { OnOk result (text.new ≡ text.old ++ spec.ranked_in view id) }
+{
+    put_ranked(rank(view, id), id, text)
+}
+
+/// Appends a member of a view, by its rank there, with a comma before it unless it is the first.
+fn put_ranked(rank: Option<u8>, id: u8, text: &mut Text) -> Result<(), AllocError>
+    ensures { OnOk result (text.new ≡ text.old ++ spec.ranked rank id) }
+{
+    match rank {
+        Some(rank) => {
+            text.put(comma(rank))?;
+            text.number(u64::from(id))
+        }
+        None => Ok(()),
+    }
+}
+
+/// What stands before the member of a rank.
+fn comma(rank: u8) -> &'static [u8]
+    ensures { result.now ≡ (if rank == 0 then [] else codes ",") }
+{
+    if rank == 0 { b"" } else { b"," }
 }

@@ -41,6 +41,13 @@ impl Text {
         }
     }
 
+    /// The bytes of the text.
+    pub(crate) fn bytes(&self) -> &[u8]
+        ensures { result.now ≡ self.now }
+    {
+        self.bytes.as_slice()
+    }
+
     /// The bytes of the text, which itself is ended.
     pub(crate) fn into_bytes(self) -> Vec<u8>
         ensures { result.items ≡ self }

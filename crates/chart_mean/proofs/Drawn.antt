@@ -9,27 +9,27 @@ use Rattle.audit_mean.specs.Finding.{AuditFault, too_large, report_finding, audi
 use Rattle.audit_mean.specs.declared.law.Law.{Law}
 use Rattle.audit_mean.specs.declared.law.Finding.{Finding}
 use Rattle.chart_mean.specs.Picture.{range_picture, report_picture, chart_of}
-use Rattle.chart_mean.specs.declared.types.Range.{Range}
+use Rattle.chart_mean.specs.Excerpt.{Excerpt}
 
-module _ (law : Law) (range : Range) (text : List ℕ) where
+module _ (law : Law) (excerpt : Excerpt) (text : List ℕ) where
   taken : (large : Bool) (lines : Result (List ReportLine) ℕ) (finding : Finding) →
       (if large then Err too_large else report_finding law lines) ≡ Ok finding →
-      (large ≡ false) × ((if large then Err too_large else report_picture range (lines_of text) lines) ≡
-      Ok (range_picture range (lines_of text)))
+      (large ≡ false) × ((if large then Err too_large else report_picture excerpt (lines_of text) lines) ≡
+      Ok (range_picture excerpt (lines_of text)))
   taken true lines finding is = absurd (cc is)
   taken false (Err number) finding is = absurd (cc is)
   taken false (Ok said) finding is = (refl, refl)
 
   refused : (large : Bool) (lines : Result (List ReportLine) ℕ) (fault : AuditFault) →
       (if large then Err too_large else report_finding law lines) ≡ Err fault →
-      (if large then Err too_large else report_picture range (lines_of text) lines) ≡ Err fault
+      (if large then Err too_large else report_picture excerpt (lines_of text) lines) ≡ Err fault
   refused true lines fault is = cc is
   refused false (Err number) fault is = cc is
   refused false (Ok said) fault is = absurd (cc is)
 
   -- a text on which an audit finds something has a picture
   pub pictured_where_judged : (finding : Finding) → audit_of law text ≡ Ok finding →
-      chart_of range text ≡ Ok (range_picture range (lines_of text))
+      chart_of excerpt text ≡ Ok (range_picture excerpt (lines_of text))
   pictured_where_judged finding is = (taken (is_too_large text) (report_from running 1 (lines_of text)) finding is).1
 
   -- and isn't too large
@@ -39,5 +39,5 @@ module _ (law : Law) (range : Range) (text : List ℕ) where
       grind (arith, nat_tests, small)
 
   -- a text that an audit refuses has none, for the same fault
-  pub refused_where_refused : (fault : AuditFault) → audit_of law text ≡ Err fault → chart_of range text ≡ Err fault
+  pub refused_where_refused : (fault : AuditFault) → audit_of law text ≡ Err fault → chart_of excerpt text ≡ Err fault
   refused_where_refused fault is = refused (is_too_large text) (report_from running 1 (lines_of text)) fault is

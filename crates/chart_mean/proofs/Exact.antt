@@ -62,13 +62,13 @@ module _ (r : Request) (a : Around) (status : ℕ) (shelf : Shelved) (is : a.tol
 
   unlike : {X : Type 0} (file other picture : List ℕ) (fault : AuditFault) → found_in shelf r.file ≡ Some file →
       found_in shelf r.file ≡ Some other →
-      chart_of r.range file ≡ Ok picture → chart_of r.range other ≡ Err fault → X
+      chart_of r.excerpt file ≡ Ok picture → chart_of r.excerpt other ≡ Err fault → X
   unlike file other picture fault one two drawn not_drawn =
-      let same = ap (chart_of r.range) (file_is file other one two) in absurd (cc (same, drawn, not_drawn))
+      let same = ap (chart_of r.excerpt) (file_is file other one two) in absurd (cc (same, drawn, not_drawn))
 
   refused : (end : ChartEnding) → Draws r a end → Due (status_number end) status → (file : List ℕ)
       (fault : AuditFault) → found_in shelf r.file ≡ Some file →
-      chart_of r.range file ≡ Err fault → Due 1 status
+      chart_of r.excerpt file ≡ Err fault → Due 1 status
   refused Done d due file fault has not_drawn =
       unlike d.good.file file d.good.picture fault (found d.good.file d.good.found) has d.good.drawn not_drawn
   refused TooLarge d due file fault has not_drawn = due
@@ -80,13 +80,13 @@ module _ (r : Request) (a : Around) (status : ℕ) (shelf : Shelved) (is : a.tol
   refused Memory d due file fault has not_drawn = only 1 status due
 
   picture_is : (file other one two : List ℕ) → found_in shelf r.file ≡ Some file → found_in shelf r.file ≡ Some other →
-      chart_of r.range file ≡ Ok one → chart_of r.range other ≡ Ok two → one ≡ two
+      chart_of r.excerpt file ≡ Ok one → chart_of r.excerpt other ≡ Ok two → one ≡ two
   picture_is file other one two has other_has drawn other_drawn =
-      let same = ap (chart_of r.range) (file_is file other has other_has) in cc (same, drawn, other_drawn)
+      let same = ap (chart_of r.excerpt) (file_is file other has other_has) in cc (same, drawn, other_drawn)
 
   complete : (end : ChartEnding) → Draws r a end → Due (status_number end) status → (file picture : List ℕ) →
       found_in shelf r.file ≡ Some file →
-      chart_of r.range file ≡ Ok picture → NoPutFailed a →
+      chart_of r.excerpt file ≡ Ok picture → NoPutFailed a →
       ((status ≡ 0) × Gains a.output a.output_after (picture ∷ [])) ⊎ (status ≡ 7)
   complete Done d due file picture has drawn sound =
       let same = picture_is d.good.file file d.good.picture picture (found d.good.file d.good.found) has d.good.drawn

@@ -1,3 +1,5 @@
+pub mod Arrows
+pub mod Stubbed
 pub mod Shown
 pub mod Drawn
 pub mod Exact

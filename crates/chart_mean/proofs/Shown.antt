@@ -2,16 +2,20 @@
 use Rattle.std.proofs.Common.{◌≡◌, refl, ap, ℕ, suc, ◌+◌, Bool, true, false, List, [], ◌∷◌, ◌++◌, length}
 use Rattle.std.specs.Prelude.{◌==◌, ◌&&◌, nat_le, codes, if◌then◌else◌}
 use Rattle.chart_mean.specs.Escape.{escaped, escaped_byte, is_escaped}
-use Rattle.chart_mean.specs.Mark.{marks}
-use Rattle.chart_mean.specs.Place.{Line, lines_from}
+use Rattle.chart_mean.specs.Mark.{Manner, marks}
+use Rattle.script_mean.specs.Words.{Word}
+use Rattle.chart_mean.specs.Place.{Line, first_says, lines_from, x_next}
 
-pub as_many_lines : (first place : ℕ) (texts : List (List ℕ)) → length (lines_from first place texts) ≡ length texts
-as_many_lines first place [] = refl
-as_many_lines first place (text ∷ texts) = ap suc (as_many_lines first (place + 1) texts)
+pub as_many_lines : (hide : Word) (first place x : ℕ) (texts : List (List ℕ)) →
+    length (lines_from hide first place x texts) ≡ length texts
+as_many_lines hide first place x [] = refl
+as_many_lines hide first place x (text ∷ texts) =
+    ap suc (as_many_lines hide first (place + 1) (x_next hide x text (first_says texts)) texts)
 
-pub as_many_marks : (before lines : List Line) → length (marks before lines) ≡ length lines
-as_many_marks before [] = refl
-as_many_marks before (line ∷ lines) = ap suc (as_many_marks (before ++ line ∷ []) lines)
+pub as_many_marks : (manner : Manner) (before lines : List Line) →
+    length (marks manner before lines) ≡ length lines
+as_many_marks manner before [] = refl
+as_many_marks manner before (line ∷ lines) = ap suc (as_many_marks manner (before ++ line ∷ []) lines)
 
 -- the spelling of a byte before escaped text is escaped, by the tests that tell how it is spelled
 byte_escaped : (byte : ℕ) (rest : List ℕ) → is_escaped rest ≡ true → is_escaped (escaped_byte byte ++ rest) ≡ true

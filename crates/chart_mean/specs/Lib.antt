@@ -1,10 +1,14 @@
 pub mod Says
+pub mod Label
 pub mod Place
 pub mod Escape
 pub mod Mark
+pub mod Arrows
 pub mod Row
+pub mod Stub
 pub mod Style
 pub mod Picture
+pub mod Excerpt
 pub mod Words
 pub mod Causes
 pub mod Ends

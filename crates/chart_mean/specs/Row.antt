@@ -3,16 +3,19 @@ use Rattle.std.specs.Prelude.{ℕ, zero, suc, ◌+◌, ◌-◌, ◌==◌, ◌%�
 use Rattle.std.specs.Prelude.{if◌then◌else◌}
 use Rattle.std.specs.List.{flat_map}
 use Rattle.std.specs.Fmt.{decimal}
+use Rattle.msg_core.specs.View.{most_members, rank}
+use Rattle.msg_core.specs.declared.packet.View.{View}
 use Rattle.chart_mean.specs.Says.{Says, view, out}
 use Rattle.chart_mean.specs.Place.{Line, left, down}
 use Rattle.chart_mean.specs.Mark.{numbered}
 use Rattle.chart_mean.specs.declared.types.Stay.{Stay}
-use Rattle.chart_mean.specs.declared.types.Stay.TheVariants.{Untold, View, Out}
+use Rattle.chart_mean.specs.declared.types.Stay.TheVariants.{Untold, Out}
+use Rattle.chart_mean.specs.declared.types.Stay.TheVariants as stay
 use Rattle.chart_mean.specs.declared.types.Turn.{Turn}
 
 -- where a line says that a member is from then on
 abbrev pub stay_of : ℕ → Says → Option Stay
-stay_of member (view m ltime mask) = if m == member then Some (View ltime mask) else None
+stay_of member (view m ltime mask) = if m == member then Some (stay.View ltime mask) else None
 stay_of member (out m) = if m == member then Some Out else None
 stay_of member _ = None
 
@@ -46,11 +49,26 @@ band member x end =
     numbered (codes "width") (end - x) ++ codes " height='24'/>"
     ++ midst member x end
 
--- a band's label: the view's logical time and its mask
+-- a member of a view, by its rank there, with a comma before it unless it is the first
+abbrev pub ranked : Option ℕ → ℕ → List ℕ
+ranked None id = []
+ranked (Some place) id = (if place == 0 then [] else codes ",") ++ decimal id
+
+-- the same of a member of which it isn't known whether the view has it
+unfoldable pub ranked_in : View → ℕ → List ℕ
+ranked_in shown id = ranked (rank shown id) id
+
+-- the members of a view that are below a number
+abbrev pub members_below : View → ℕ → List ℕ
+members_below shown zero = []
+members_below shown (suc id) = members_below shown id ++ ranked_in shown id
+
+-- a band's label: the view's logical time and its members
 abbrev pub label : ℕ → (x ltime mask : ℕ) → List ℕ
 label member x ltime mask =
     codes "<text" ++ numbered (codes "x") x ++ numbered (codes "y") (down member - 16)
-    ++ codes " dx='4'>view " ++ decimal ltime ++ codes " mask " ++ decimal mask ++ codes "</text>"
+    ++ codes " dx='4'>view " ++ decimal ltime ++ codes " {"
+    ++ members_below (record { ltime = ltime; mask = mask }) most_members ++ codes "}</text>"
 
 -- a band of no view that is known
 abbrev pub untold_band : ℕ → (x end : ℕ) → List ℕ
@@ -63,7 +81,8 @@ tinted_band member x end ltime = codes "<g class='view" ++ decimal (ltime % 6) +
 -- the band of a stay, up to where it ends; a member that is out has none
 abbrev pub stay_band : ℕ → (x end : ℕ) → Stay → List ℕ
 stay_band member x end Untold = untold_band member x end
-stay_band member x end (View ltime mask) = tinted_band member x end ltime ++ label member x ltime mask ++ codes "</g>\n"
+stay_band member x end (stay.View ltime mask) = tinted_band member x end ltime ++ label member x ltime mask ++
+    codes "</g>\n"
 stay_band member x end Out = []
 
 -- the stays of a member: from each turn to the next, and from the last to the end

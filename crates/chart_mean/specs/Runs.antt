@@ -45,7 +45,7 @@ pub record Good (r : Request) (told : Option Shelved) (reads reads_after : ℕ) 
   pub file : List ℕ
   pub found : IfSome told (λ shelf. found_in shelf r.file ≡ Some file)
   pub picture : List ℕ
-  pub drawn : chart_of r.range file ≡ Ok picture
+  pub drawn : chart_of r.excerpt file ≡ Ok picture
   pub sound : reads_after ≡ reads
 
 -- The whole picture was written, in one put.
@@ -67,7 +67,7 @@ pub record Begun (r : Request) (a : Around) : Type 0 where
 pub record Refused (r : Request) (a : Around) (fault : AuditFault) : Type 0 where
   pub file : List ℕ
   pub found : IfSome a.told (λ shelf. found_in shelf r.file ≡ Some file)
-  pub refused : chart_of r.range file ≡ Err fault
+  pub refused : chart_of r.excerpt file ≡ Err fault
   pub sound : a.reads_after ≡ a.reads
   pub untouched : a.output_after ≡ a.output
 
@@ -108,9 +108,9 @@ pub record Exact (r : Request) (a : Around) (status : ℕ) : Type 0 where
   pub unread : (shelf : Shelved) → a.told ≡ Some shelf → found_in shelf r.file ≡ None → Due 4 status
   pub refused : (shelf : Shelved) (file : List ℕ) (fault : AuditFault) → a.told ≡ Some shelf →
       found_in shelf r.file ≡ Some file →
-      chart_of r.range file ≡ Err fault → Due 1 status
+      chart_of r.excerpt file ≡ Err fault → Due 1 status
   pub complete : (shelf : Shelved) (file picture : List ℕ) → a.told ≡ Some shelf → found_in shelf r.file ≡ Some file →
-      chart_of r.range file ≡ Ok picture → NoPutFailed a →
+      chart_of r.excerpt file ≡ Ok picture → NoPutFailed a →
       ((status ≡ 0) × Gains a.output a.output_after (picture ∷ [])) ⊎ (status ≡ 7)
 
 -- Words that ask for no picture have status 2.

@@ -6,6 +6,9 @@ mod examples;
 mod laws;
 mod types;
 
-pub use crate::examples::read_lines;
-pub use crate::laws::{each_line_has_its_mark, text_is_escaped};
-pub use crate::types::{ChartEnding, Range, SentPacket, Stay, Turn};
+pub use crate::examples::{read_labels, read_lines};
+pub use crate::laws::{
+    arrows_lead_from_packets, each_line_has_its_mark, stubs_lead_to_those_never_reached,
+    text_is_escaped,
+};
+pub use crate::types::{Breach, ChartEnding, SentPacket, Stay, Turn};

@@ -6,11 +6,11 @@ ghost use Rattle.chart_mean.specs.declared.types.ChartEnding.TheVariants as endi
 use outside::{ShelfError, SinkError};
 use std::alloc::AllocError;
 
-/// The lines of a report that a picture shows, by the numbers of the first and the last, counted from 1.
+/// Two lines of a report that break a law together, by their numbers.
 #[derive(Clone, Copy, Debug, PartialEq, Eq)]
-pub struct Range {
+pub struct Breach {
     pub first: u32,
-    pub last: u32,
+    pub second: u32,
 }
 
 /// Where a member is, as far as the lines shown tell.

@@ -1,8 +1,10 @@
 use Rattle.std.specs.Prelude.{◌-◌, ◌++◌, codes}
 use Rattle.std.specs.Fmt.{decimal}
+use Rattle.msg_core.specs.View.{most_members}
 use Rattle.chart_mean.specs.Mark.{numbered}
 use Rattle.chart_mean.specs.Place.{down}
-use Rattle.chart_draw.proofs.Joined.{last, two_more}
+use Rattle.chart_mean.specs.Row.{members_below}
+use Rattle.chart_draw.proofs.Joined.{last, more, two_more}
 use Rattle.chart_draw.proofs.rows.draw_label.Goals as goal
 
 pub returns : goal.returns
@@ -13,6 +15,8 @@ returns c =
     (rw c.down.ensures.is at c.in_ok-put_at.ensures)
     (rw c.from.ensures at c.in_ok-put_number.ensures) in
     let two = one ++ codes " dx='4'>view " ++ decimal c.args.ltime in
-    let to_three = two_more start two (codes " mask ") (decimal c.args.mask) _ _ to_two
-    (rw c.from-2.ensures at c.in_ok-put_number-2.ensures) in
-    last c.put.result start (two ++ codes " mask " ++ decimal c.args.mask) (codes "</text>") _ _ to_three c.put.ensures
+    let to_three = more start two (codes " {") _ _ to_two c.in_ok-put.ensures in
+    let three = two ++ codes " {" in
+    let members = members_below (record { ltime = c.args.ltime; mask = c.args.mask }) most_members in
+    let to_four = more start three members _ _ to_three c.in_ok-put_members.ensures in
+    last c.put-2.result start (three ++ members) (codes "}</text>") _ _ to_four c.put-2.ensures

@@ -7,4 +7,7 @@ pub returns : goal.returns
 returns c =
     let one = c.in_ok-command.ensures ∙ ap₂ with_rule c.bare.ensures c.required.ensures.rule in
     let two = c.in_ok-command-2.ensures ∙ ap₂ with_rule one c.option.ensures.rule in
-    IfOk-weaker c.with-3.result _ _ (λ longer is. is ∙ ap₂ with_rule two c.option-2.ensures.rule) c.with-3.ensures
+    let three = c.in_ok-command-3.ensures ∙ ap₂ with_rule two c.option-2.ensures.rule in
+    let four = c.in_ok-command-4.ensures ∙ ap₂ with_rule three c.option-3.ensures.rule in
+    let five = c.in_ok-command-5.ensures ∙ ap₂ with_rule four c.positional.ensures.rule in
+    IfOk-weaker c.with-6.result _ _ (λ longer is. is ∙ ap₂ with_rule five c.option-4.ensures.rule) c.with-6.ensures
