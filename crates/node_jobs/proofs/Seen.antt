@@ -16,7 +16,7 @@ use Rattle.run_mean.specs.Journal.{Handed, note_lines, node_lines}
 use Rattle.job_ends.specs.Printed.{printed_text}
 use Rattle.program_mean.specs.Headline.{Run, OfJob, ReadsStack, Unread, second_for, whole_end, WritesOf, WroteNothing}
 use Rattle.program_mean.specs.Headline.{Began, Ends, Says, LinksFail, whole, cut_off, out_of_memory, gone_on}
-use Rattle.group_mean.specs.Node.{node_words}
+use Rattle.group_mean.specs.Node.{node_words, receiving}
 use Rattle.group_mean.specs.Node.{Surroundings, NodeWords, failed_sends, node_notes, node_moments, handed_by}
 use Rattle.output_mean.specs.Judged.{Means}
 use Rattle.program_mean.specs.Second.{second_fault}
@@ -179,7 +179,8 @@ module _ (words : List Text) (w : Node) (a : Around) (n : Beyond) (is : job_of_w
     deaf_hears = subst (λ heard. heard_in (doings_of r.good.node.plan w.me w.turns w.patience r.served.s.clock heard) ≡
         heard) (sym r.served.last)
         (hears_last r.good.node.plan w.me 0 w.turns w.patience r.served.s.clock r.served.before r.served.turns
-        (subst (λ heard. length heard ≤ length r.served.s.clock * length w.me) r.served.last r.served.within)
+        (subst (λ heard. length heard ≤ length r.served.s.clock * length (receiving w.me)) r.served.last
+        r.served.within)
         r.served.borne)
 
     went_deaf : Reached words w a n link_failed

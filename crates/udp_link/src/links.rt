@@ -4,12 +4,14 @@ ghost use Rattle.std.specs.Prelude.{OnErr, length, replicate, slice_get, take, v
 ghost use Rattle.outside.specs.declared.links.LinkError.TheVariants.{Memory};
 ghost use Rattle.outside.specs.declared.links.TheConstants.{LONGEST_DATAGRAM, MOST_PEERS};
 ghost use Rattle.outside.specs.Links.{Listens, listen_of, Sends, Receives, WritesFront, faults_after_call};
+ghost use Rattle.udp_link.specs.Address.{IsAddressOf};
 ghost use Rattle.udp_link.specs.Listening.{listening_in, peers_in, peers_of, place_in};
 
 use crate::member::{Member, address};
+use live_outside::LiveLinks;
 use outside::{LONGEST_DATAGRAM, LinkError, Links, MOST_PEERS, Peer};
 use std::alloc::{AllocError, Global};
-use std::net::Net;
+use std::net::{Net, SocketAddr};
 
 /// One UDP socket for each member that listens. A datagram that the system has no room for, now or ever, is a failed
 /// send; that nothing waits is no failure. After it was made it takes no memory.
@@ -92,6 +94,26 @@ fn listener(members: &[Option<Member>], member: u8) -> &Member
     }
 }
 
+/// A member that sends, and the address to which it does.
+#[derive(Clone, Copy)]
+struct Way<'a> {
+    sender: &'a Member,
+    to: SocketAddr,
+}
+
+/// The way of a datagram from a member to a peer of that member's.
+fn find_way(members: &[Option<Member>], from: u8, to: u8) -> Way<'_>
+    requires { IsSomeAnd (listening_in members.now from) (λ peers. to < peers) }
+    ensures sender { peers_in members.now from ≡ Some (peers_of result.sender.now) }
+    ensures address { IsSomeAnd (slice_get (peers_of result.sender.now) to) (λ peer. IsAddressOf peer result.to) }
+{
+    let sender = listener(members, from);
+    Way {
+        sender,
+        to: address(sender.peer(to)),
+    }
+}
+
 impl<R: Net + Drop> Links for UdpLinks<R> {
     ghost faults = { λ links. links.faults };
 
@@ -142,8 +164,8 @@ impl<R: Net + Drop> Links for UdpLinks<R> {
         ensures told { Sends (record { from = from; to = to; bytes = bytes.now }) None None result }
         ensures memory { result ≢ Err Memory }
     {
-        let sender = listener(&self.members, from);
-        if sender.send(address(sender.peer(to)), bytes) {
+        let way = find_way(&self.members, from, to);
+        if way.sender.send(way.to, bytes) {
             return Ok(());
         }
         self.send_faults = self.send_faults.saturating_add(1);
@@ -177,4 +199,30 @@ impl<R: Net + Drop> Links for UdpLinks<R> {
             }
         }
     }
+}
+
+impl<R: Net + Drop> LiveLinks for UdpLinks<R> {
+    fn wait(&mut self)
+        ensures faults { self.new.faults ≡ self.old.faults }
+        ensures sends { self.new.send_faults ≡ self.old.send_faults }
+        ensures listening { (m : ℕ) → listening_in self.new.members.items m ≡ listening_in self.old.members.items m }
+        ensures told { ⟦<UdpLinks<R> as Links>⟧.told self.new ≡ ⟦<UdpLinks<R> as Links>⟧.told self.old }
+        ensures members { self.new.members ≡ self.old.members }
+    {
+        if let Some(last) = quiet_listener(&self.members) {
+            last.wait();
+        }
+    }
+}
+
+/// The last member that listens, where none of them has news.
+fn quiet_listener(members: &[Option<Member>]) -> Option<&Member> {
+    let mut last = None;
+    for listener in members.iter().flatten() {
+        if listener.has_news() {
+            return None;
+        }
+        last = Some(listener);
+    }
+    last
 }
