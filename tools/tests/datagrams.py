@@ -1,5 +1,6 @@
 #!/usr/bin/env python3
-"""Hands a member of the program in $STACKC datagrams of both forms, whole, cut off, changed and long, and compares what it makes of each, in both modes."""
+"""Hands a member of the program in $STACKC datagrams of both forms, whole, cut off, changed and long, and compares what it makes of each, in both modes; and
+compares the form in which a cast is sent."""
 from program import runs
 
 # A layer whose casts have a constant and a variable field.
@@ -47,6 +48,14 @@ def changed(places, byte):
     return bytes(byte if place in places else own for place, own in enumerate(SHORT))
 
 
+# The same layer, which keeps the second field of what it takes; casts whose first field is the plan's constant, the second of which is a member's own, and a cast
+# with another one, which fits no plan.
+KEEPS = SAID.replace("  header", "  state int kept;\n  header").replace("{ up Cast(o, m); }", "{ set kept = b; up Cast(o, m); }")
+OTHER = bytes.fromhex("e5" + FRONT + "01" + "00000006" + "00000007") + b"hi"
+OWN = FRONT[:32] + "02ff"
+WIRES = {"layered": f"e5{OWN}0100000005000000026869", "bypass": f"e6{OWN}00000000026869"}
+VISITS = {"layered": (2, 2), "bypass": (0, 1)}
+
 CASES = [
     ("the full form", SAID, prefixes(FULL, [(19, "short"), (28, "chain")])),
     ("the short form", SAID, prefixes(SHORT, [(19, "short"), (20, "plan"), (24, "chain")])),
@@ -59,8 +68,20 @@ CASES = [
 ]
 
 
+def forms(made, mode):
+    """A cast as it is sent, and the field that is kept of each form; only what fits no plan is a step that visits a layer where members run by bypasses."""
+    for data, kept in ((FULL, 9), (SHORT, 9), (OTHER, 7)):
+        made.put("a.script", f"group 1 stamp 2 members 3\ncast 2 6869\nraw 1 {data.hex()}\nstate 1\n")
+        visits = VISITS[mode][data == OTHER]
+        lines = ["packet 1 2 all said.said(5,2) 6869", f"wire 1 {WIRES[mode]}", delivered(b"hi"), "state 1 0 7", f"cell 1 0 said.kept {kept}", "end 3", f"visits {visits}"]
+        made.compare(f"a cast, and {data.hex()}, {mode}", made.run(["replay", "a.layers", "a.script", "--run", mode, "--wire", "--count"]), (0, "".join(f"{line}\n" for line in lines), ""))
+
+
 def main():
     with runs("datagrams") as made:
+        made.put("a.layers", KEEPS)
+        for mode in WIRES:
+            forms(made, mode)
         for what, layers, datagrams in CASES:
             given, wanted = zip(*datagrams)
             made.put("a.layers", layers)

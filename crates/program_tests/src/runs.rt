@@ -1,15 +1,11 @@
 //! Runs over memory.
 
-use outside::{Clock, Links, MemClock, MemLinks, MemShelf, MemSink, NamedFile, Shelf, Sink};
+use live_outside::{LiveLinks, LiveSink};
+use outside::{Clock, MemClock, MemLinks, MemShelf, MemSink, NamedFile, Shelf, Sink};
 use stackc_run::run;
 use std::alloc::{AllocError, Global};
 
-/// The words of a replay.
-pub(crate) const REPLAY: &[&str] = &["replay", "f", "s", "--run", "layered"];
-
-/// The first line of a script.
-pub(crate) const FIRST: &[u8] = b"group 1 stamp 7 members 3\n";
-
+/// The layer by which nodes run: it numbers casts, and delivers those of a peer in order.
 pub(crate) const COUNTER: &[u8] =
     b"layer cnt {\n  state int k;\n  state int e[n];\n  header num(seq) passes;\n  down Cast(p, m) {\n    \
     down Cast(p, m) with num(k);\n    set k = (k + 1);\n  }\n  up Cast(o, m) with num(seq) common (seq == e[o]) {\n    \
@@ -31,15 +27,6 @@ pub(crate) struct Expected<'a> {
     pub err: &'a [u8],
 }
 
-/// No output, for this cause.
-pub(crate) fn refused(status: u8, err: &[u8]) -> Expected<'_> {
-    Expected {
-        status,
-        out: b"",
-        err,
-    }
-}
-
 impl Left {
     /// Whether a run left this.
     pub(crate) fn is(&self, expected: Expected<'_>) -> bool {
@@ -50,7 +37,7 @@ impl Left {
 }
 
 /// A run. What it says of concrete files, sinks and links isn't asked here, and would cost each test much.
-pub(crate) fn run_over<S: Shelf, O: Sink, E: Sink, N: Links, C: Clock>(
+pub(crate) fn run_over<S: Shelf, O: LiveSink, E: Sink, N: LiveLinks, C: Clock>(
     alloc: Global,
     words: &[String],
     shelf: &mut S,
@@ -91,24 +78,7 @@ pub(crate) fn left_on(
     })
 }
 
-/// Links to nobody.
-pub(crate) fn no_links(alloc: Global) -> MemLinks {
-    MemLinks::new(alloc, Vec::new(alloc), Vec::new(alloc), Vec::new(alloc))
-}
-
-/// What a job over files left, with the puts that are to fail.
-pub(crate) fn left_by(
-    alloc: Global,
-    texts: &[&str],
-    shelf: &mut MemShelf,
-    puts: Vec<Option<u64>>,
-) -> Result<Left, AllocError> {
-    let words = words(alloc, texts)?;
-    let mut links = no_links(alloc);
-    let mut clock = MemClock::new(Vec::new(alloc));
-    left_over(alloc, &words, shelf, puts, &mut links, &mut clock)
-}
-
+/// The words of a command line.
 pub(crate) fn words(alloc: Global, texts: &[&str]) -> Result<Vec<String>, AllocError> {
     let mut words = Vec::new(alloc);
     for text in texts {
@@ -117,6 +87,7 @@ pub(crate) fn words(alloc: Global, texts: &[&str]) -> Result<Vec<String>, AllocE
     Ok(words)
 }
 
+/// A file of this name.
 pub(crate) fn named(alloc: Global, name: &str, bytes: &[u8]) -> Result<NamedFile, AllocError> {
     Ok(NamedFile {
         name: String::from_str(alloc, name)?,

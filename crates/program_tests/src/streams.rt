@@ -1,97 +1,150 @@
-//! Runs over streams that lack something.
+//! Streams that take or give little.
 
-use crate::runs::{COUNTER, Expected, FIRST, Left, REPLAY, no_links, pair, words};
-use outside::{Clock, Links, MemClock, MemShelf, Shelf, StdSink};
-use stackc_run::run_through;
+use outside::{Got, Sink, SinkError, StdSink, read_stream};
 use std::alloc::{AllocError, Global};
-use std::io::{self, ErrorKind, Write};
+use std::io::{self, ErrorKind, Read, Write};
 use std::test::Fail;
 
-/// A stream that takes `most` bytes and no more, and whose flush may fail.
+/// A stream that takes three bytes at most in a call, is interrupted before each call, and fails once it has taken
+/// `most`. Its first flush fails.
 #[derive(Drop)]
-struct Narrow {
+struct Slow {
     taken: Vec<u8>,
     most: usize,
-    stuck: bool,
+    interrupted: bool,
+    flushed: bool,
 }
 
-impl Write for Narrow {
+impl Slow {
+    fn of(alloc: Global, most: usize) -> Self {
+        Slow {
+            taken: Vec::new(alloc),
+            most,
+            interrupted: false,
+            flushed: false,
+        }
+    }
+}
+
+impl Write for Slow {
     fn write(&mut self, buf: &[u8]) -> io::Result<usize> {
-        let count = buf.len().min(self.most.saturating_sub(self.taken.len()));
+        self.interrupted = !self.interrupted;
+        if self.interrupted {
+            return Err(io::Error::from(ErrorKind::Interrupted));
+        }
+        if self.taken.len() >= self.most {
+            return Err(io::Error::from(ErrorKind::BrokenPipe));
+        }
+        let count = buf.len().min(3).min(self.most - self.taken.len());
         self.taken.extend_from_slice(&buf[..count])?;
         Ok(count)
     }
 
     fn flush(&mut self) -> io::Result<()> {
-        if self.stuck {
-            return Err(io::Error::from(ErrorKind::BrokenPipe));
+        if self.flushed {
+            return Ok(());
         }
-        Ok(())
+        self.flushed = true;
+        Err(io::Error::from(ErrorKind::BrokenPipe))
     }
 }
 
-/// A run over streams. What it says of concrete ones isn't asked here.
-fn run_narrowly<S: Shelf, O: Write + Drop, E: Write + Drop, N: Links, C: Clock>(
-    alloc: Global,
-    words: &[String],
-    shelf: &mut S,
-    out: &mut StdSink<O>,
-    err: &mut StdSink<E>,
-    links: &mut N,
-    clock: &mut C,
-) -> u8 {
-    run_through(alloc, words, shelf, out, err, links, clock)
+/// A stream that gives its last byte first, one in a call, and is interrupted before each.
+#[derive(Drop)]
+struct Drip {
+    left: Vec<u8>,
+    interrupted: bool,
 }
 
-/// A sink over a stream that takes `most` bytes, and whose flush may fail.
-fn sink_of(alloc: Global, most: usize, stuck: bool) -> Result<StdSink<Narrow>, AllocError> {
-    let stream = Narrow {
-        taken: Vec::new(alloc),
-        most,
-        stuck,
+impl Read for Drip {
+    fn read(&mut self, buf: &mut [u8]) -> io::Result<usize> {
+        self.interrupted = !self.interrupted;
+        if self.interrupted {
+            return Err(io::Error::from(ErrorKind::Interrupted));
+        }
+        let Some(place) = buf.first_mut() else {
+            return Ok(0);
+        };
+        let Some(byte) = self.left.pop() else {
+            return Ok(0);
+        };
+        *place = byte;
+        Ok(1)
+    }
+}
+
+/// Whether a sink takes these bytes.
+fn takes<O: Sink>(sink: &mut O, bytes: &[u8]) -> bool {
+    sink.put(bytes) == Ok(())
+}
+
+/// Whether the stream of a sink got `count` bytes, and its first flush failed.
+fn is_whole(sink: &mut StdSink<Slow>, count: usize) -> bool {
+    sink.finish() == Err(SinkError::Failed)
+        && sink.finish() == Ok(())
+        && sink.stream().taken.len() == count
+}
+
+/// Whether a sink takes `byte` this many times.
+fn takes_repeated<O: Sink>(
+    alloc: Global,
+    sink: &mut O,
+    byte: u8,
+    count: usize,
+) -> Result<bool, AllocError> {
+    let bytes = vec![in alloc; byte; count]?;
+    Ok(takes(sink, &bytes))
+}
+
+/// Whether a sink takes bytes up to the 64 KiB that it gathers, one more, and more than it gathers.
+fn takes_pieces<O: Sink>(alloc: Global, sink: &mut O) -> Result<bool, AllocError> {
+    Ok(
+        takes_repeated(alloc, sink, b'a', 65_530)?
+            && takes_repeated(alloc, sink, b'b', 6)?
+            && takes(sink, b"c")
+            && takes_repeated(alloc, sink, b'd', 70_000)?,
+    )
+}
+
+/// Whether a slow stream gets every byte in its order.
+fn slow_gets_all(alloc: Global) -> io::Result<bool> {
+    let mut sink = StdSink::new(alloc, Slow::of(alloc, 1_000_000))?;
+    Ok(
+        takes_pieces(alloc, &mut sink)?
+            && is_whole(&mut sink, 135_537)
+            && sink.stream().taken.is_sorted(),
+    )
+}
+
+/// Whether a stream that breaks got what it took, and the count rose.
+fn broken_is_counted(alloc: Global) -> io::Result<bool> {
+    let mut sink = StdSink::new(alloc, Slow::of(alloc, 4))?;
+    Ok(
+        takes(&mut sink, b"hello")
+            && sink.finish() == Err(SinkError::Failed)
+            && sink.faults() == 1
+            && sink.stream().taken.as_slice() == b"hell".as_slice(),
+    )
+}
+
+/// Whether a stream that drips is read whole.
+fn drip_is_read(alloc: Global) -> io::Result<bool> {
+    let mut drip = Drip {
+        left: b"olleh".to_vec(alloc)?,
+        interrupted: false,
     };
-    StdSink::new(alloc, stream)
-}
-
-/// What a replay left on its streams.
-fn left_through(
-    alloc: Global,
-    shelf: &mut MemShelf,
-    out: &mut StdSink<Narrow>,
-    err: &mut StdSink<Narrow>,
-) -> Result<Left, AllocError> {
-    let words = words(alloc, REPLAY)?;
-    let mut links = no_links(alloc);
-    let mut clock = MemClock::new(Vec::new(alloc));
-    let status = run_narrowly(alloc, &words, shelf, out, err, &mut links, &mut clock);
-    Ok(Left {
-        status,
-        out: out.stream().taken.clone()?,
-        err: err.stream().taken.clone()?,
-    })
-}
-
-/// A run of the counter layer, or of another file, over a stream that takes `most` bytes.
-fn streamed(alloc: Global, file: &[u8], most: usize, stuck: bool) -> Result<Left, AllocError> {
-    let mut shelf = MemShelf::new(pair(alloc, file, "s", FIRST)?, Vec::new(alloc));
-    let mut out = sink_of(alloc, most, stuck)?;
-    let mut err = sink_of(alloc, 100, false)?;
-    left_through(alloc, &mut shelf, &mut out, &mut err)
+    let mut into = Vec::new(alloc);
+    Ok(
+        read_stream(&mut drip, &mut into, 5) == Ok(Got::Whole)
+            && into.as_slice() == b"hello".as_slice(),
+    )
 }
 
 #[test]
-fn hands_on_what_was_put(rt: HostRuntime) -> Result<(), Fail> {
+fn streams(rt: HostRuntime) -> Result<(), Fail> {
     let alloc = rt.alloc();
-    let cases: [(&[u8], usize, bool, u8, &[u8], &[u8]); 5] = [
-        (COUNTER, 100, false, 0, b"end 0\n", b""),
-        (COUNTER, 3, false, 5, b"end", b"write fault\n"),
-        (COUNTER, 100, true, 5, b"end 0\n", b"write fault\n"),
-        (b"$", 100, false, 1, b"", b"file: token 1:1\n"),
-        (b"$", 100, true, 1, b"", b"file: token 1:1\n"),
-    ];
-    for (file, most, stuck, status, out, err) in cases {
-        let expected = Expected { status, out, err };
-        assert!(rt; streamed(alloc, file, most, stuck)?.is(expected));
-    }
+    assert!(rt; slow_gets_all(alloc)?);
+    assert!(rt; broken_is_counted(alloc)?);
+    assert!(rt; drip_is_read(alloc)?);
     Ok(())
 }

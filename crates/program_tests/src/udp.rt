@@ -1,12 +1,11 @@
 // Over the loopback, at an address of this process alone: what the system's sockets carry.
-ghost use Rattle.std.specs.Prelude.{◌≡◌, ◌≤◌, ◌<◌, ℕ, Some, IfOk, OnOk, IsSome, IsSomeAnd, length};
+ghost use Rattle.std.specs.Prelude.{◌≡◌, ◌≤◌, ◌<◌, ℕ, IfOk, IsSome, IsSomeAnd, length};
 
+use live_outside::LiveLinks;
 use outside::{LONGEST_DATAGRAM, LinkError, Links, Peer};
 use std::alloc::{AllocError, Global};
-use std::rt::Clock;
+use std::process;
 use std::test::Fail;
-use std::time::Duration;
-use std::{process, thread};
 use udp_link::UdpLinks;
 
 // A port of the loopback, at one of two addresses of this process. Those of another process on this machine are others.
@@ -35,9 +34,8 @@ fn pattern(alloc: Global) -> Result<Vec<u8>, AllocError>
     Ok(bytes)
 }
 
-// A datagram for the member, which is waited for up to a second.
-fn receive<N: Links>(
-    clock: &impl Clock,
+// A datagram for the member, which is waited for a thousand times, a moment each.
+fn receive<N: LiveLinks>(
     links: &mut N,
     member: u8,
     into: &mut [u8],
@@ -51,14 +49,14 @@ fn receive<N: Links>(
         if got.is_some() {
             return Ok(got);
         }
-        thread::sleep(clock, Duration::from_millis(1));
+        links.wait();
     }
     Ok(None)
 }
 
-// Whether a datagram passes whole from a member to another, and nothing else waits for that.
-fn passes<N: Links>(
-    clock: &impl Clock,
+// Whether a datagram passes whole from a member to another, and nothing else waits for that. Before it there is nothing
+// to wait for, and a wait ends all the same.
+fn passes<N: LiveLinks>(
     links: &mut N,
     from: u8,
     to: u8,
@@ -71,8 +69,10 @@ fn passes<N: Links>(
     requires room { length into.old ≡ LONGEST_DATAGRAM }
     ensures listening { (m : ℕ) → N.listening links.new m ≡ N.listening links.old m }
 {
+    links.wait();
     links.send(from, to, bytes)?;
-    let got = receive(clock, links, to, into)?;
+    links.wait();
+    let got = receive(links, to, into)?;
     let whole = got == Some(bytes.len()) && into.get(..bytes.len()) == Some(bytes);
     let alone = links.recv(to, into)?.is_none();
     Ok(whole && alone)
@@ -80,8 +80,7 @@ fn passes<N: Links>(
 
 // Whether datagrams of each size pass between two of three members at two addresses, and two that follow one another in
 // their order.
-fn sizes_pass<N: Links>(
-    clock: &impl Clock,
+fn sizes_pass<N: LiveLinks>(
     links: &mut N,
     peers: &[Peer; 3],
     pattern: &[u8],
@@ -93,21 +92,20 @@ fn sizes_pass<N: Links>(
     links.listen(0, peers)?;
     links.listen(1, peers)?;
     links.listen(2, peers)?;
-    let none = passes(clock, links, 0, 1, &pattern[..0], into)?;
-    let some = passes(clock, links, 1, 0, b"nineteen bytes long".as_slice(), into)?;
-    let most = passes(clock, links, 0, 1, pattern, into)?;
+    let none = passes(links, 0, 1, &pattern[..0], into)?;
+    let some = passes(links, 1, 0, b"nineteen bytes long".as_slice(), into)?;
+    let most = passes(links, 0, 1, pattern, into)?;
     links.send(0, 2, b"long")?;
     links.send(1, 2, b"it")?;
-    let first = receive(clock, links, 2, into)? == Some(4);
-    let second = receive(clock, links, 2, into)? == Some(2);
+    let first = receive(links, 2, into)? == Some(4);
+    let second = receive(links, 2, into)? == Some(2);
     let following = into.get(..4) == Some(b"itng".as_slice());
     Ok(none && some && most && first && second && following)
 }
 
 // Whether listening at a place that is taken fails, a send to no port fails, and members are heard that moved or that
 // the other doesn't know.
-fn places_are_their_own<N: Links>(
-    clock: &impl Clock,
+fn places_are_their_own<N: LiveLinks>(
     links: &mut N,
     places: [Peer; 3],
     into: &mut [u8],
@@ -124,71 +122,10 @@ fn places_are_their_own<N: Links>(
     let nowhere = links.send(0, 2, b"hello") == Err(LinkError::Failed);
     links.listen(0, &[second, first])?;
     links.listen(1, &[second, first])?;
-    let moved = passes(clock, links, 0, 1, b"hello", into)?
-        && passes(clock, links, 1, 0, b"there", into)?;
+    let moved = passes(links, 0, 1, b"hello", into)? && passes(links, 1, 0, b"there", into)?;
     links.listen(1, &[second, third])?;
-    let stranger = passes(clock, links, 1, 0, b"hello", into)?;
+    let stranger = passes(links, 1, 0, b"hello", into)?;
     Ok(taken && nowhere && moved && stranger)
-}
-
-fn listen_all<N: Links>(links: &mut N, places: &[Peer]) -> Result<(), LinkError>
-    requires { length places.now ≡ 32 }
-    ensures { OnOk result ((m : ℕ) → m < 32 → N.listening links.new m ≡ Some 32) }
-{
-    for member in 0..32 {
-        links.listen(member, places)?;
-    }
-    Ok(())
-}
-
-// Sends each member its number, from the last to the first.
-fn send_to_all<N: Links>(links: &mut N) -> Result<(), LinkError>
-    requires { (m : ℕ) → m < 32 → N.listening links.old m ≡ Some 32 }
-    ensures { (m : ℕ) → N.listening links.new m ≡ N.listening links.old m }
-{
-    for member in 0..32 {
-        let last = 31 - member;
-        links.send(member, last, &[last])?;
-    }
-    Ok(())
-}
-
-// Whether each member got its own number, and nothing else.
-fn all_received<N: Links>(
-    clock: &impl Clock,
-    links: &mut N,
-    into: &mut [u8],
-) -> Result<bool, LinkError>
-    requires listen { (m : ℕ) → m < 32 → N.listening links.old m ≡ Some 32 }
-    requires room { length into.old ≡ LONGEST_DATAGRAM }
-{
-    for member in 0..32 {
-        if receive(clock, links, member, into)? != Some(1)
-            || into.first().copied() != Some(member)
-            || links.recv(member, into)?.is_some()
-        {
-            return Ok(false);
-        }
-    }
-    Ok(true)
-}
-
-// Whether each of 32 members gets its own.
-fn each_gets_its_own<N: Links>(
-    clock: &impl Clock,
-    links: &mut N,
-    first: Peer,
-    into: &mut [u8],
-) -> Result<bool, LinkError>
-    requires { length into.old ≡ LONGEST_DATAGRAM }
-{
-    let mut places = [first; 32];
-    for (place, port) in places.iter_mut().zip(47330..47362) {
-        place.port = port;
-    }
-    listen_all(links, &places)?;
-    send_to_all(links)?;
-    all_received(clock, links, into)
 }
 
 #[test]
@@ -204,12 +141,11 @@ fn datagrams_over_the_loopback(rt: HostRuntime) -> Result<(), Fail> {
         peer(process, 1, 47320),
         peer(process, 0, 47321),
     ];
-    assert!(rt; sizes_pass(&rt, &mut links, &peers, &pattern, into) == Ok(true));
+    assert!(rt; sizes_pass(&mut links, &peers, &pattern, into) == Ok(true));
     assert!(rt; links.faults() == 0 && links.send_faults() == 0);
     let first = peer(process, 0, 47322);
     let places = [first, peer(process, 0, 47323), peer(process, 1, 47323)];
-    assert!(rt; places_are_their_own(&rt, &mut links, places, into) == Ok(true));
+    assert!(rt; places_are_their_own(&mut links, places, into) == Ok(true));
     assert!(rt; links.faults() == 1 && links.send_faults() == 1);
-    assert!(rt; each_gets_its_own(&rt, &mut links, first, into) == Ok(true));
     Ok(())
 }

@@ -1,26 +1,8 @@
-//! Blocks of memory.
+//! Blocks of memory of sizes that no member asks for.
 
 use raw_block::Block;
 use std::alloc::Global;
 use std::test::Fail;
-
-#[test]
-fn values_lie_in_the_order_of_their_pushes(rt: HostRuntime) -> Result<(), Fail> {
-    let mut block = Block::with_capacity(rt.alloc(), 3)?;
-    assert_eq!(rt; block.capacity(), 3);
-    if block.len() < block.capacity() {
-        block.push(7u64);
-    }
-    if block.len() < block.capacity() {
-        block.push(8u64);
-    }
-    assert_eq!(rt; block.as_slice(), [7, 8].as_slice());
-    if block.len() == 2 {
-        *block.at_mut(0) = 9;
-    }
-    assert_eq!(rt; block.as_slice(), [9, 8].as_slice());
-    Ok(())
-}
 
 #[test]
 fn a_block_of_no_places_is_made(rt: HostRuntime) -> Result<(), Fail> {
