@@ -4,7 +4,7 @@
 Run it from any folder: diff/memory.py [PROGRAM]. It takes `cc`. The calls of malloc, calloc, realloc and posix_memalign are counted by a small library that
 stands in front of the system's; call number N fails, or N and all after it, for each N. Where that is told, the status is 7, what was
 written is the beginning of the whole report, in whole lines, and what is said is `no memory` or its beginning; else all is as it was. Its runs are a
-check, an audit, an explanation, and in both modes a replay whose views change and loads of one and of four members. It prints how many calls each run has, how many of them were refused
+check, an audit, an explanation, and in both modes a replay with each further word whose views change and loads of one and of four members. It prints how many calls each run has, how many of them were refused
 in vain, and each difference; and ends with 1 where there is one.
 """
 import os
@@ -115,7 +115,7 @@ def main():
             file.write(runs.run(["replay", *views], 0, False)[0])
         runs.judge("check", ["check", views[0]])
         for mode in ("layered", "bypass"):
-            runs.judge(f"replay, {mode}", ["replay", *views, "--run", mode, "--wire", "--count"])
+            runs.judge(f"replay, {mode}", ["replay", *views, "--run", mode, "--events", "--wire", "--count"])
             for members in ("1", "4"):
                 runs.judge(f"load of {members}, {mode}", ["load", library, "--seed", "3", "--events", "60", "--members", members, "--run", mode, "--raw"])
         runs.judge("explain", ["explain", f"{TOP}/examples/mended.layers", f"{TOP}/examples/behind.script"])
