@@ -10,6 +10,7 @@ from tree import TOP
 PROGRAM = os.environ.get("STACKHUNT", "")
 STACKC = os.environ["STACKC"]
 COUNTER = os.path.join(TOP, "examples", "counter.layers")
+STYLES = ("mixed", "flood", "crash", "part")
 WRONG = []
 
 
@@ -51,6 +52,17 @@ def try_find(folder, law):
     wants(f"{law}: the same words find the same", hunted(COUNTER, law)[1] == script)
 
 
+def try_styles(ordered):
+    """Each style finds what breaks at once, and holds what keeps an order; without the word it is the mix, and no other word is a style."""
+    for style in STYLES:
+        status, script, _said = hunted(COUNTER, "total", "--runs", "1000", "--style", style)
+        wants(f"{style}: a breach is found", status == 8)
+        wants(f"{style}: it is small", len(script.splitlines()) <= 10)
+        wants(f"{style}: a stack that keeps an order holds", hunted(ordered, "total", "--runs", "20", "--style", style) == (0, "holds 20\n", ""))
+    wants("without the word it is the mix", hunted(COUNTER, "sender", "--runs", "1000", "--style", "mixed") == hunted(COUNTER, "sender"))
+    wants("no style of that name", hunted(COUNTER, "total", "--runs", "1", "--style", "floods") == (2, "", "words: refused\n"))
+
+
 def main():
     if not PROGRAM:
         print("hunts: STACKHUNT names no program, so none was tried")
@@ -59,6 +71,7 @@ def main():
         for law in ("sender", "total"):
             try_find(folder, law)
         ordered = put(folder, "ordered.layers", "stack { bottom; mnak; local; total; }\n")
+        try_styles(ordered)
         wants("a stack that keeps an order holds", hunted(ordered, "total", "--runs", "50") == (0, "holds 50\n", ""))
         wants("no run begins when the time is up", hunted(ordered, "total", "--runs", "4294967295", "--seconds", "1")[0] == 0)
         bad = put(folder, "bad.layers", "stack { nowhere; }\n")

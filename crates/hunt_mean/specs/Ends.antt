@@ -20,11 +20,12 @@ use Rattle.hunt_mean.specs.Words.{Request, request_of}
 abbrev pub holds_line : ℕ → List ℕ
 holds_line runs = codes "holds " ++ decimal runs ++ codes "\n"
 
--- The bytes of a file mean a stack, and the text tells in how many runs no breach was found: in all that were asked
--- for, where the time doesn't count.
+-- The bytes of a file mean a stack, over which members have room, and the text tells in how many runs no breach was
+-- found: in all that were asked for, where the time doesn't count.
 pub record IsHeld (r : Request) (file text : List ℕ) : Type 0 where
   pub stack : List LayerTree
   pub means : Means file stack
+  pub room : rows_of stack r.members ≤ most_rows
   pub runs : ℕ
   pub few : runs ≤ r.runs
   pub all : r.seconds ≡ 0 → runs ≡ r.runs

@@ -11,6 +11,7 @@ use Rattle.output_mean.specs.Judged.{Means}
 use Rattle.run_mean.specs.Report.{report_lines}
 use Rattle.script_mean.specs.Script.{script_of}
 use Rattle.script_mean.specs.declared.script.Script.{Script}
+use Rattle.stack_mean.specs.Acceptance.{most_rows, rows_of}
 use Rattle.stack_mean.specs.Plans.{plans_of}
 use Rattle.hunt_mean.specs.Words.{Request}
 
@@ -37,11 +38,13 @@ abbrev pub told_breach : Law → List ℕ → (first second : ℕ) → List ℕ
 told_breach law report first second =
     codes "# breaks " ++ law_word law ++ codes "\n" ++ told_line report first ++ told_line report second
 
--- The bytes of a file mean a stack, and a text spells a script with no more members and events than were asked for,
--- over whose report the audit has a breach of the law; the text begins with comments that tell of it.
+-- The bytes of a file mean a stack, over which members have room, and a text spells a script with no more members and
+-- events than were asked for, over whose report the audit has a breach of the law; the text begins with comments that
+-- tell of it.
 pub record IsFind (request : Request) (file text : List ℕ) : Type 0 where
   pub stack : List LayerTree
   pub means : Means file stack
+  pub room : rows_of stack request.members ≤ most_rows
   pub script : Script
   pub spells : script_of text ≡ Ok script
   pub members : script.members ≤ request.members

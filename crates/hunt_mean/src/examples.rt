@@ -1,8 +1,10 @@
 //! What is told, on a worked case.
-ghost use Rattle.std.specs.Prelude.{◌≡◌, codes};
+ghost use Rattle.std.specs.Prelude.{◌≡◌, codes, Some, None};
 ghost use Rattle.audit_mean.specs.declared.law.Law.TheVariants.{Sender};
 ghost use Rattle.hunt_mean.specs.Ends.{holds_line};
 ghost use Rattle.hunt_mean.specs.Find.{numbered_line, told_breach};
+ghost use Rattle.hunt_mean.specs.Words.{style_of};
+ghost use Rattle.hunt_mean.specs.declared.style.Style.TheVariants.{Mixed, Flood, Crash, Part};
 
 /// The lines of a report by their numbers, and the comments that tell two of them.
 pub fn lines_are_told()
@@ -17,4 +19,14 @@ pub fn lines_are_told()
 /// The line of runs in which no breach was found.
 pub fn runs_are_told()
     ensures { holds_line 100 ≡ codes "holds 100\n" }
+{}
+
+/// The style of a hunt by its word, which may be missing.
+pub fn styles_are_named()
+    ensures none { style_of None ≡ Some Mixed }
+    ensures mixed { style_of (Some (codes "mixed")) ≡ Some Mixed }
+    ensures flood { style_of (Some (codes "flood")) ≡ Some Flood }
+    ensures crash { style_of (Some (codes "crash")) ≡ Some Crash }
+    ensures part { style_of (Some (codes "part")) ≡ Some Part }
+    ensures other { style_of (Some (codes "floods")) ≡ None }
 {}

@@ -13,6 +13,7 @@ pub is_find : (r : Request) (file draft text : List ℕ) (b again : Broken) → 
 is_find r file draft text b again k told same = record {
   stack = k.reports.stack;
   means = k.reports.means;
+  room = k.reports.room;
   script = k.script;
   spells = k.asked.spells;
   members = k.asked.within.members;

@@ -7,6 +7,7 @@ use Rattle.layer_mean.specs.Tree.{LayerTree}
 use Rattle.output_mean.specs.Judged.{Means}
 use Rattle.script_mean.specs.Script.{IsRunnable, script_of}
 use Rattle.script_mean.specs.declared.script.Script.{Script}
+use Rattle.stack_mean.specs.Acceptance.{most_rows, rows_of}
 use Rattle.hunt_mean.specs.Find.{report_of}
 use Rattle.hunt_mean.specs.Words.{Request}
 use Rattle.hunt_run.specs.declared.broken.Broken.{Broken}
@@ -28,10 +29,11 @@ pub record CanPlay (script : Script) : Type 0 where
   pub runs : IsRunnable script
   pub few : length script.events ≤ 99999
 
--- The bytes of a file mean a stack, over which a script has this report.
-pub record Reports (file : List ℕ) (script : Script) (report : List ℕ) : Type 0 where
+-- The bytes of a file mean a stack, over which so many members have room, and a script has this report.
+pub record Reports (file : List ℕ) (members : ℕ) (script : Script) (report : List ℕ) : Type 0 where
   pub stack : List LayerTree
   pub means : Means file stack
+  pub room : rows_of stack members ≤ most_rows
   pub is : report ≡ report_of stack script
 
 -- An audit finds that these two lines of a report break a law.
@@ -42,7 +44,7 @@ IsBreach law report first second = audit_of law report ≡ Ok (Breach first seco
 pub record Breaks (r : Request) (file text : List ℕ) (b : Broken) : Type 0 where
   pub script : Script
   pub asked : IsAsked r text script
-  pub reports : Reports file script b.report.items
+  pub reports : Reports file r.members script b.report.items
   pub breach : IsBreach r.law b.report.items b.first b.second
 
 -- Two reports and their breaches are the same.

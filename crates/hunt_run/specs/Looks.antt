@@ -1,5 +1,6 @@
 -- What a hunt over the bytes of a stack file answers, and its writing.
-use Rattle.std.specs.Prelude.{◌≡◌, ℕ, ◌<◌, Bool, true, false, List, [], ◌∷◌, Option, Some, None, Result, Ok, Err}
+use Rattle.std.specs.Prelude.{◌≡◌, ℕ, ◌<◌, ◌≤◌, ◌-◌, Bool, true, false, List, [], ◌∷◌, Option, Some, None, Result, Ok}
+use Rattle.std.specs.Prelude.{Err}
 use Rattle.std.specs.Prelude.{if◌then◌else◌}
 use Rattle.std.specs.List.{concat}
 use Rattle.end_mean.specs.Status.{Ended, done, breached, file_refused, second_refused, too_many_rows, read_failed}
@@ -22,10 +23,17 @@ use Rattle.hunt_run.specs.declared.hunt.Output.{Output}
 abbrev pub end_of : Output → Ended
 end_of o = if o.is_breach then breached else done
 
--- Runs over a stack found nothing, or a find; else memory ran out.
+-- Runs over a stack over which members have room found nothing, or a find; else memory ran out.
 abbrev pub Goes : Request → (file : List ℕ) → Result Output Ending → Type 0
-Goes r file (Ok o) = (stack : List LayerTree) → Means file stack → IsOutput r (end_of o) file o.text
+Goes r file (Ok o) =
+    (stack : List LayerTree) → Means file stack → rows_of stack r.members ≤ most_rows →
+    IsOutput r (end_of o) file o.text
 Goes r file (Err ending) = shown_end ending ≡ no_memory
+
+-- What is told where no breach was found is how many runs the search made.
+abbrev pub Counts : (made made_after : ℕ) → Result Output Ending → Type 0
+Counts made made_after (Ok o) = o.is_breach ≡ false → o.text ≡ holds_line (made_after - made)
+Counts made made_after (Err ending) = Unit {0}
 
 -- A run found nothing that its bytes confirm, or a find; else memory ran out.
 abbrev pub Makes : Request → (file : List ℕ) → Result (Option (List ℕ)) Ending → Type 0

@@ -11,4 +11,5 @@ request_shown r = record {
   runs = r.runs;
   seed = r.seed;
   seconds = r.seconds;
+  style = r.style;
 }

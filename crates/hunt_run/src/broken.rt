@@ -8,6 +8,7 @@ use crate::words::Request;
 use audit_judge::{AuditError, Finding, Law, audit};
 use file_judge::{FileError, judge};
 use group_mean::Mode;
+use group_open::has_room;
 use job_text::MOST_GENERATED;
 use outside::StillSink;
 use play_jobs::{PlayError, Wanted, play};
@@ -43,7 +44,7 @@ pub(crate) fn broken_by(
     let Some(script) = script_in(alloc, request, text)? else {
         return Ok(None);
     };
-    let Some(report) = report_of(alloc, file, &script)? else {
+    let Some(report) = report_of(alloc, file, request.members, &script)? else {
         return Ok(None);
     };
     let Some(Lines { first, second }) = breach_in(alloc, request.law, &report)? else {
@@ -82,19 +83,29 @@ fn within(request: Request<'_>, script: Script) -> Option<Script>
     Some(script)
 }
 
-/// The report of a script over the stack of a file, if there is a stack whose members have room.
-fn report_of(alloc: Global, file: &[u8], script: &Script) -> Result<Option<Vec<u8>>, AllocError>
+/// The report of a script over the stack of a file, if there is a stack over which so many members have room.
+fn report_of(
+    alloc: Global,
+    file: &[u8],
+    members: u8,
+    script: &Script,
+) -> Result<Option<Vec<u8>>, AllocError>
     requires { CanPlay script.now }
-    ensures { IfOk result (λ found. IfSome found (λ report. Reports file.now script.now report.items)) }
+    ensures { IfOk result (λ found. IfSome found (λ report. Reports file.now members script.now report.items)) }
 {
     let stack = match judge(alloc, file) {
         Ok(stack) => stack,
         Err(FileError::Memory) => return Err(AllocError),
         Err(_) => return Ok(None),
     };
+    if !has_room(&stack, members) {
+        drop(stack);
+        return Ok(None);
+    }
     let mut sink = StillSink::of(alloc);
     let wanted = Wanted {
         script,
+        events: false,
         wire: false,
         count: false,
     };

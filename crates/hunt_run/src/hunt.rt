@@ -1,9 +1,9 @@
 //! Runs over the stack of a file, until one breaks the law.
 
-ghost use Rattle.std.specs.Prelude.{◌≡◌, true};
+ghost use Rattle.std.specs.Prelude.{◌≡◌, ◌+◌, OnOk, true};
 ghost use Rattle.stack_judge.specs.Answer.{stack_tree};
 ghost use Rattle.output_mean.specs.Judged.{Means};
-ghost use Rattle.hunt_run.specs.Looks.{Goes, IsHeldLine, Looks, Makes};
+ghost use Rattle.hunt_run.specs.Looks.{Counts, Goes, IsHeldLine, Looks, Makes};
 ghost use Rattle.hunt_run.specs.Reading.{request_shown};
 
 use crate::found::find;
@@ -11,11 +11,12 @@ use crate::told::holds_line;
 use crate::watch::Watch;
 use crate::words::Request;
 use file_judge::judge;
-use hunt_search::{Aim, Search, SearchError};
+use group_open::has_room;
+use hunt_search::{Aim, Search};
 use job_ends::Ending;
 use outside::Clock;
 use report_lines::Line;
-use stack_judge::{MOST_ROWS, Stack};
+use stack_judge::Stack;
 use std::alloc::Global;
 use std::io::Write;
 
@@ -50,7 +51,7 @@ fn look_over<C: Clock + Drop, N: Write + Drop>(
     requires { Means file.now (stack_tree stack) }
     ensures { Looks (request_shown request.entry) file.now result }
 {
-    if stack.rows(request.members) > MOST_ROWS {
+    if !has_room(&stack, request.members) {
         drop(stack);
         return Err(Ending::TooManyRows);
     }
@@ -58,6 +59,7 @@ fn look_over<C: Clock + Drop, N: Write + Drop>(
         law: request.law,
         members: request.members,
         events: request.events,
+        style: request.style,
     };
     match Search::new(alloc, stack, aim) {
         Ok(mut search) => {
@@ -69,7 +71,8 @@ fn look_over<C: Clock + Drop, N: Write + Drop>(
     }
 }
 
-/// Makes all runs, up to one that breaks the law, or until the time is up.
+/// Makes all runs, up to one that breaks the law, or until the time is up. The runs that are told are those that the
+/// search made.
 fn all_runs<C: Clock + Drop, N: Write + Drop>(
     alloc: Global,
     request: Request<'_>,
@@ -77,7 +80,8 @@ fn all_runs<C: Clock + Drop, N: Write + Drop>(
     search: &mut Search,
     watch: &mut Watch<C, N>,
 ) -> Result<Output, Ending>
-    ensures { Goes (request_shown request.entry) file.now result }
+    ensures goes { Goes (request_shown request.entry) file.now result }
+    ensures counts { Counts search.old search.new result }
 {
     watch.begin();
     for run in 0..request.runs {
@@ -117,7 +121,8 @@ fn one_run(
     search: &mut Search,
     run: u32,
 ) -> Result<Option<Line>, Ending>
-    ensures { Makes (request_shown request.entry) file.now result }
+    ensures makes { Makes (request_shown request.entry) file.now result }
+    ensures counted { OnOk result (search.new ≡ search.old + 1) }
 {
     match search.run(u64::from(request.seed) + u64::from(run)) {
         Ok(None) => Ok(None),
@@ -125,8 +130,7 @@ fn one_run(
             Ok(found) => Ok(found),
             Err(_) => Err(Ending::Memory),
         },
-        Err(SearchError::TooManyRows) => Ok(None),
-        Err(SearchError::Memory) => Err(Ending::Memory),
+        Err(_) => Err(Ending::Memory),
     }
 }
 

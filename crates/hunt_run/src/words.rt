@@ -13,6 +13,7 @@ ghost use Rattle.hunt_run.specs.Reading.{request_shown};
 use audit_mean::Law;
 use clap::{ArgMatches, Command};
 use command_line::{bare, option, required, taken, text, with};
+use hunt_mean::Style;
 use job_text::{MOST_GENERATED, a_number, a_number_or_zero, law_of};
 use msg_core::MOST_MEMBERS;
 use std::alloc::{AllocError, Global};
@@ -21,7 +22,8 @@ use std::alloc::{AllocError, Global};
 const MOST_SECONDS: u32 = 1_000_000;
 
 /// A stack file and the law that its stack is to break; how many members a group has, and how many events a run; how
-/// many runs there are, and from which number on; and after how many seconds no run begins, 0 for never.
+/// many runs there are, and from which number on; after how many seconds no run begins, 0 for never; and what happens
+/// in them above all.
 #[derive(Clone, Copy)]
 pub(crate) struct Request<'w> {
     pub file: &'w str,
@@ -31,6 +33,7 @@ pub(crate) struct Request<'w> {
     pub runs: u32,
     pub seed: u32,
     pub seconds: u32,
+    pub style: Style,
 }
 
 /// What the words after the program's name ask for, or nothing where they are no request.
@@ -57,6 +60,7 @@ fn request_in<'w>(matches: &ArgMatches<'w>) -> Option<Request<'w>>
     let runs = a_number(1, u32::MAX, text(matches, "runs"))?;
     let seed = a_number(0, u32::MAX, text(matches, "seed"))?;
     let seconds = a_number_or_zero(MOST_SECONDS, text(matches, "seconds"))?;
+    let style = style_of(text(matches, "style"))?;
     Some(Request {
         file,
         law,
@@ -65,6 +69,7 @@ fn request_in<'w>(matches: &ArgMatches<'w>) -> Option<Request<'w>>
         runs,
         seed,
         seconds,
+        style,
     })
 }
 
@@ -73,6 +78,26 @@ fn members_of(given: Option<&str>) -> Option<u8>
     ensures { result ≡ job.a_number 1 most_members (word.text given.entry) }
 {
     Some(a_number(1, u32::from(MOST_MEMBERS), given)? as u8)
+}
+
+/// The style of `--style`; without it, the mix.
+fn style_of(given: Option<&str>) -> Option<Style>
+    ensures { result ≡ spec.style_of (word.text given.entry) }
+{
+    let Some(name) = given else {
+        return Some(Style::Mixed);
+    };
+    if name == "mixed" {
+        Some(Style::Mixed)
+    } else if name == "flood" {
+        Some(Style::Flood)
+    } else if name == "crash" {
+        Some(Style::Crash)
+    } else if name == "part" {
+        Some(Style::Part)
+    } else {
+        None
+    }
 }
 
 /// The one command of the program, as it is described to `clap`.
@@ -85,5 +110,6 @@ fn command<'a>(alloc: Global) -> Result<Command<'a>, AllocError>
     let command = with(command, option(alloc, "events"))?;
     let command = with(command, option(alloc, "runs"))?;
     let command = with(command, option(alloc, "seed"))?;
-    with(command, option(alloc, "seconds"))
+    let command = with(command, option(alloc, "seconds"))?;
+    with(command, option(alloc, "style"))
 }

@@ -49,6 +49,15 @@ impl Ledger {
         self.notes.as_slice()
     }
 
+    /// How many packets each step sent, by its name.
+    pub(crate) fn counts(&self, alloc: Global) -> Result<Vec<u32>, SearchError> {
+        let mut counts = Vec::with_capacity(alloc, self.sent.len())?;
+        for sent in self.sent.as_slice() {
+            counts.push(sent.count)?;
+        }
+        Ok(counts)
+    }
+
     /// To whom the packets of the last step that was taken go.
     pub(crate) fn dests(&self) -> &[Dest] {
         self.dests.as_slice()

@@ -5,6 +5,7 @@
 //! search ends.
 #![tactic(auto)]
 
+mod aside;
 mod error;
 mod habits;
 mod judge;

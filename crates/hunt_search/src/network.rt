@@ -7,9 +7,6 @@ use crate::schedule::Source;
 use msg_core::{Dest, View};
 use std::alloc::Global;
 
-/// The most packets that are on their way, and the most that wait for a view; where there are more, the first is lost.
-const MOST_DUES: usize = 128;
-
 /// A packet on its way from a member to another, and the logical time of the view in which it was sent.
 #[derive(Clone, Copy)]
 pub(crate) struct Due {
@@ -20,16 +17,20 @@ pub(crate) struct Due {
 }
 
 /// The packets on their way, in the order in which they were sent; those of views that the members to whom they go
-/// haven't entered yet; the logical time of each member's view; how many members there are; the members on one side,
-/// where the network is parted; and the members that neither hear nor are heard.
+/// haven't entered yet; the most of each, where there are more the first is lost; the logical time of each member's
+/// view; how many members there are; the members on one side, and those on another, where the network is parted; the
+/// members that neither hear nor are heard; and those that crashed.
 #[derive(Drop)]
 pub(crate) struct Network {
     dues: Vec<Due>,
     waiting: Vec<Due>,
+    most: usize,
     ltimes: Vec<u32>,
     members: u8,
     pub side: u32,
+    pub other_side: u32,
     pub silent: u32,
+    crashed: u32,
 }
 
 /// The set of this member alone.
@@ -38,15 +39,18 @@ pub(crate) fn only(member: u8) -> u32 {
 }
 
 impl Network {
-    /// A network of this many members, on which nothing is on its way.
-    pub(crate) fn new(alloc: Global, members: u8) -> Result<Network, SearchError> {
+    /// A network of this many members, on which nothing is on its way, and may be at most so many packets.
+    pub(crate) fn new(alloc: Global, members: u8, most: usize) -> Result<Network, SearchError> {
         Ok(Network {
-            dues: Vec::with_capacity(alloc, MOST_DUES)?,
+            dues: Vec::new(alloc),
             waiting: Vec::new(alloc),
+            most,
             ltimes: vec![in alloc; 0; usize::from(members)]?,
             members,
             side: 0,
+            other_side: 0,
             silent: 0,
+            crashed: 0,
         })
     }
 
@@ -60,7 +64,30 @@ impl Network {
     /// The network isn't parted, and no member is silent.
     pub(crate) fn mend(&mut self) {
         self.side = 0;
+        self.other_side = 0;
         self.silent = 0;
+    }
+
+    /// Whether it is parted.
+    pub(crate) fn is_parted(&self) -> bool {
+        self.side != 0 || self.other_side != 0
+    }
+
+    /// A member crashes: what is on its way to it is lost.
+    pub(crate) fn crash(&mut self, member: u8) {
+        self.crashed |= only(member);
+        lose(&mut self.dues, member, u32::MAX);
+        lose(&mut self.waiting, member, u32::MAX);
+    }
+
+    /// The members that neither do nor hear anything, for now or for good.
+    pub(crate) fn idle(&self) -> u32 {
+        self.silent | self.crashed
+    }
+
+    /// Whether a member crashed.
+    pub(crate) fn is_crashed(&self, member: u8) -> bool {
+        self.crashed & only(member) != 0
     }
 
     /// Puts the packets of a step on their way, each to all to whom it goes, in the view in which the step was made.
@@ -100,15 +127,15 @@ impl Network {
     }
 
     /// Puts a packet on its way, or with those that wait for their view. A packet of a view that the member left is
-    /// lost.
+    /// lost, and so is one to a member that crashed.
     fn put(&mut self, due: Due) -> Result<(), SearchError> {
         let ltime = self.ltime_of(due.to);
-        if due.ltime == ltime {
-            put_last(&mut self.dues, due)
-        } else if due.ltime > ltime {
-            put_last(&mut self.waiting, due)
-        } else {
+        if self.is_crashed(due.to) || due.ltime < ltime {
             Ok(())
+        } else if due.ltime == ltime {
+            put_last(&mut self.dues, self.most, due)
+        } else {
+            put_last(&mut self.waiting, self.most, due)
         }
     }
 
@@ -125,7 +152,33 @@ impl Network {
     /// Whether a packet can come: both members are on one side, and neither is silent.
     fn can_come(&self, due: Due) -> bool {
         let (from, to) = (only(due.from), only(due.to));
-        (self.side & from == 0) == (self.side & to == 0) && self.silent & (from | to) == 0
+        are_together(self.side, from, to)
+            && are_together(self.other_side, from, to)
+            && self.silent & (from | to) == 0
+    }
+
+    /// The packets that can't come are lost.
+    pub(crate) fn lose_parted(&mut self) {
+        for place in (0..self.dues.len()).rev() {
+            if let Some(due) = self.at(place)
+                && !self.can_come(due)
+            {
+                self.take(place);
+            }
+        }
+    }
+
+    /// A packet that is on its way to a member has come.
+    pub(crate) fn arrive(&mut self, source: Source, to: u8) {
+        for place in 0..self.dues.len() {
+            if let Some(due) = self.at(place)
+                && due.to == to
+                && due.source == source
+            {
+                self.take(place);
+                return;
+            }
+        }
     }
 
     fn ltime_of(&self, member: u8) -> u32 {
@@ -162,7 +215,7 @@ impl Network {
         }
         lose(&mut self.dues, member, ltime);
         lose(&mut self.waiting, member, ltime);
-        admit(&mut self.dues, &self.waiting, member, ltime)?;
+        admit(&mut self.dues, self.most, &self.waiting, member, ltime)?;
         lose(&mut self.waiting, member, ltime.saturating_add(1));
         Ok(())
     }
@@ -173,9 +226,9 @@ impl Network {
     }
 }
 
-/// Puts a packet after others; where there are too many, the first is lost.
-fn put_last(dues: &mut Vec<Due>, due: Due) -> Result<(), SearchError> {
-    if dues.len() >= MOST_DUES {
+/// Puts a packet after others; where there are this many, the first is lost.
+fn put_last(dues: &mut Vec<Due>, most: usize, due: Due) -> Result<(), SearchError> {
+    if most > 0 && dues.len() >= most {
         let _ = dues.remove(0);
     }
     dues.push(due)?;
@@ -183,10 +236,16 @@ fn put_last(dues: &mut Vec<Due>, due: Due) -> Result<(), SearchError> {
 }
 
 /// Puts those that waited for the view of this logical time at a member after others.
-fn admit(dues: &mut Vec<Due>, waiting: &[Due], member: u8, ltime: u32) -> Result<(), SearchError> {
+fn admit(
+    dues: &mut Vec<Due>,
+    most: usize,
+    waiting: &[Due],
+    member: u8,
+    ltime: u32,
+) -> Result<(), SearchError> {
     for due in waiting {
         if due.to == member && due.ltime == ltime {
-            put_last(dues, *due)?;
+            put_last(dues, most, *due)?;
         }
     }
     Ok(())
@@ -207,6 +266,11 @@ fn take_at(dues: &mut Vec<Due>, place: usize) {
     if place < dues.len() {
         let _ = dues.remove(place);
     }
+}
+
+/// Whether two members are both among some, or both not.
+fn are_together(some: u32, from: u32, to: u32) -> bool {
+    (some & from == 0) == (some & to == 0)
 }
 
 /// Whether a packet goes to a rank.

@@ -1,7 +1,10 @@
 //! A schedule that breaks a law, made small: what can be taken out of it is, as long as the law stays broken.
 //!
 //! Steps are taken out by Zeller and Hildebrandt's delta debugging: halves, quarters, and so on down to single ones.
+//! Then pairs are, and steps whose packets others sent as well. Where nothing more can be taken out, other runs are
+//! looked at that begin in the same way.
 
+use crate::aside::{hasten, put_others, run_aside};
 use crate::error::SearchError;
 use crate::schedule::{Act, Body, Schedule};
 use crate::search::Search;
@@ -13,8 +16,56 @@ const MOST_ROUNDS: u32 = 16;
 /// The body of the first cast or send; those of the next ones follow it.
 const FIRST_BODY: u8 = b'a';
 
-/// Makes a schedule that breaks the law small: it still breaks it.
-pub(crate) fn reduce(search: &mut Search, least: &mut Schedule) -> Result<(), SearchError> {
+/// How many runs that begin as the least one are looked at before it is taken, since it became smaller; how many of
+/// them that break the law are made small; and how many there are in all.
+const MOST_TRIES: u32 = 300;
+
+const MOST_BREACHES: u32 = 20;
+
+const MOST_RUNS: u32 = 1500;
+
+/// The most steps of which pairs are tried, and beside which other runs are looked at.
+const MOST_PAIRED: usize = 48;
+
+/// Makes the schedule of a run that breaks the law small: it still breaks it.
+pub(crate) fn reduce(
+    search: &mut Search,
+    number: u64,
+    least: &mut Schedule,
+) -> Result<(), SearchError> {
+    shrink(search, least)?;
+    let mut tries = MOST_TRIES;
+    let mut breaches = MOST_BREACHES;
+    for turn in 0..MOST_RUNS {
+        if tries == 0 || breaches == 0 || least.steps.len() > MOST_PAIRED {
+            break;
+        }
+        tries -= 1;
+        let number = number
+            .wrapping_mul(u64::from(MOST_RUNS))
+            .wrapping_add(u64::from(turn));
+        let Some(mut other) = run_aside(search, number, least)? else {
+            continue;
+        };
+        breaches -= 1;
+        shrink(search, &mut other)?;
+        if is_smaller(&other, least) {
+            *least = other;
+            tries = MOST_TRIES;
+            breaches = MOST_BREACHES;
+        }
+    }
+    Ok(())
+}
+
+/// Whether one schedule has fewer steps than another, or as many and fewer members.
+fn is_smaller(one: &Schedule, other: &Schedule) -> bool {
+    let (mine, yours) = (one.steps.len(), other.steps.len());
+    mine < yours || (mine == yours && one.members < other.members)
+}
+
+/// Makes a schedule that breaks the law small, as far as steps can be taken out of it.
+fn shrink(search: &mut Search, least: &mut Schedule) -> Result<(), SearchError> {
     cut_off(search, least)?;
     thin_out(search, least)?;
     for _ in 0..MOST_ROUNDS {
@@ -31,12 +82,15 @@ fn make_smaller(search: &mut Search, least: &mut Schedule) -> Result<bool, Searc
     let bodies = shorten_bodies(search, least)?;
     let moments = lower_moments(search, least)?;
     let steps = take_out(search, least, 1)?;
+    let pairs = take_out_pairs(search, least)?;
+    let others = put_others(search, least)?;
+    let sooner = hasten(search, least)?;
     name_bodies(search, least)?;
-    Ok(members || bodies || moments || steps)
+    Ok(members || bodies || moments || steps || pairs || others || sooner)
 }
 
 /// Takes another schedule in place of the least one, if it breaks the law too.
-fn try_out(
+pub(crate) fn try_out(
     search: &mut Search,
     least: &mut Schedule,
     other: Schedule,
@@ -127,8 +181,24 @@ fn take_out(search: &mut Search, least: &mut Schedule, size: usize) -> Result<bo
     Ok(is_less)
 }
 
+/// Takes out pairs of steps, where there aren't too many, and answers whether any could be taken out.
+fn take_out_pairs(search: &mut Search, least: &mut Schedule) -> Result<bool, SearchError> {
+    if least.steps.len() > MOST_PAIRED {
+        return Ok(false);
+    }
+    let mut is_less = false;
+    for second in (0..least.steps.len()).rev() {
+        for first in (0..second).rev() {
+            let other = without(search.alloc(), least, second, second + 1)?;
+            let other = without(search.alloc(), &other, first, first + 1)?;
+            is_less |= try_out(search, least, other)?;
+        }
+    }
+    Ok(is_less)
+}
+
 /// A schedule without the steps from one place to another.
-fn without(
+pub(crate) fn without(
     alloc: Global,
     schedule: &Schedule,
     start: usize,

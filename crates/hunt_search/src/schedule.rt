@@ -8,7 +8,7 @@ pub(crate) struct Body {
 }
 
 /// A packet, named by the step that sent it and by how many packets that step sent before it.
-#[derive(Clone, Copy)]
+#[derive(Clone, Copy, PartialEq, Eq)]
 pub(crate) struct Source {
     pub step: u32,
     pub place: u32,
@@ -91,4 +91,11 @@ pub(crate) struct Schedule {
     pub members: u8,
     pub names: u32,
     pub steps: Vec<Step>,
+}
+
+/// What a run is to be: the steps with which it begins, which are named by their places, and how many it has.
+#[derive(Clone, Copy)]
+pub(crate) struct Course<'s> {
+    pub first: &'s [Step],
+    pub events: u32,
 }

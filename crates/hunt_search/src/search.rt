@@ -1,5 +1,6 @@
 //! Runs, one after the other, and what is found in them.
 
+ghost use Rattle.std.specs.Prelude.{◌≡◌, ◌+◌, IfOk, OnOk};
 ghost use Rattle.bypass_laws.specs.Making.{IsSound};
 ghost use Rattle.stack_judge.specs.Answer.{stack_tree};
 
@@ -7,40 +8,52 @@ use crate::error::SearchError;
 use crate::judge::is_broken;
 use crate::ledger::Ledger;
 use crate::reduce::reduce;
-use crate::schedule::{Schedule, Step};
+use crate::schedule::{Course, Schedule, Step};
 use crate::text::Text;
 use crate::wander::Wander;
 use audit_mean::Law;
 use hunt_ground::{Ground, Group};
+use hunt_mean::Style;
 use msg_core::MOST_MEMBERS;
 use stack_judge::Stack;
 use std::alloc::Global;
+use std::marker::Model;
 
-/// In how many of the four parts of a run it is unquiet.
-const UNQUIET: u32 = 3;
-
-/// What is looked for: a law that runs of this many members and events are to break.
+/// What is looked for: a law that runs of this many members and events are to break, and what happens in them above
+/// all.
 #[derive(Clone, Copy)]
 pub struct Aim {
     pub law: Law,
     pub members: u8,
     pub events: u32,
+    pub style: Style,
 }
 
 /// A search over a stack, with what groups begin with, what is noted of a run, and the group of the last run, in whose
-/// memory the next one begins, if it has as many members. It can't be let go, only closed.
+/// memory the next one begins, if it has as many members; and how many runs were made and judged, which is all that
+/// contracts see. It can't be let go, only closed.
 pub struct Search {
     alloc: Global,
     aim: Aim,
     ground: Ground,
     ledger: Ledger,
     spare: Option<Group>,
+    made: u64,
+}
+
+impl Model for Search {
+    ghost use Rattle.std.specs.Prelude.{ℕ};
+
+    ghost Value = { ℕ };
+
+    ghost view = { λ s. s.made };
 }
 
 impl Search {
     /// A search over a stack that is accepted, before its first run.
     pub fn new(alloc: Global, stack: Stack, aim: Aim) -> Result<Search, SearchError>
         requires { IsSound (stack_tree stack) }
+        ensures { IfOk result (λ search. search ≡ 0) }
     {
         Ok(Search {
             alloc,
@@ -48,17 +61,25 @@ impl Search {
             ground: Ground::of(alloc, stack)?,
             ledger: Ledger::new(alloc),
             spare: None,
+            made: 0,
         })
     }
 
-    /// Makes the run of a number, and answers its script, made small, where it breaks the law.
-    pub fn run(&mut self, number: u64) -> Result<Option<Vec<u8>>, SearchError> {
+    /// Makes the run of a number and judges it, and answers its script, made small, where it breaks the law.
+    pub fn run(&mut self, number: u64) -> Result<Option<Vec<u8>>, SearchError>
+        ensures { OnOk result (self.new ≡ self.old + 1) }
+    {
+        let Some(made) = self.made.checked_add(1) else {
+            return Err(SearchError::Memory);
+        };
         let mut schedule = self.wander(number)?;
         if !self.is_broken(schedule.members)? {
+            self.made = made;
             return Ok(None);
         }
-        reduce(self, &mut schedule)?;
+        reduce(self, number, &mut schedule)?;
         let script = self.script_of(number, &schedule)?;
+        self.made = made;
         Ok(Some(script))
     }
 
@@ -68,7 +89,7 @@ impl Search {
     }
 
     /// Whether the run that was made last breaks the law.
-    fn is_broken(&self, members: u8) -> Result<bool, SearchError> {
+    pub(crate) fn is_broken(&self, members: u8) -> Result<bool, SearchError> {
         is_broken(self.alloc, self.aim.law, members, self.ledger.notes())
     }
 
@@ -110,6 +131,7 @@ impl Search {
             ground: _,
             ledger: _,
             spare,
+            made: _,
         } = self;
         close(spare);
     }
@@ -118,22 +140,38 @@ impl Search {
     fn wander(&mut self, number: u64) -> Result<Schedule, SearchError> {
         let events = self.aim.events;
         let members = self.aim.members;
-        let mut wander = Wander::new(self.alloc, members, number)?;
-        self.ledger.clear(events)?;
+        let course = Course { first: &[], events };
+        self.follow(number, members, course)
+    }
+
+    /// Makes the run of a number that begins as its course says, and whose other steps are drawn as it goes on.
+    pub(crate) fn follow(
+        &mut self,
+        number: u64,
+        members: u8,
+        course: Course<'_>,
+    ) -> Result<Schedule, SearchError> {
+        let mut wander = Wander::new(self.alloc, members, number, self.aim.style)?;
+        self.ledger.clear(course.events)?;
         let mut group = self.open(members)?;
         let steps = wander_on(
             self.alloc,
             &mut self.ledger,
             &mut group,
             &mut wander,
-            events,
+            course,
         );
         self.put_by(group);
         Ok(Schedule {
             members,
-            names: events,
+            names: course.events,
             steps: steps?,
         })
+    }
+
+    /// How many packets each step of the run that was made last sent, by its name.
+    pub(crate) fn counts(&self) -> Result<Vec<u32>, SearchError> {
+        self.ledger.counts(self.alloc)
     }
 
     /// Makes the run of the steps of a schedule before a place.
@@ -153,7 +191,7 @@ impl Search {
 
     /// The script of a schedule that was made from the run of this number.
     fn script_of(&mut self, number: u64, schedule: &Schedule) -> Result<Vec<u8>, SearchError> {
-        let mut text = Text::of(self.alloc, number, schedule.names, schedule.members)?;
+        let mut text = Text::of(self.alloc, number, self.aim.events, schedule.members)?;
         self.ledger.clear(schedule.names)?;
         let mut group = self.open(schedule.members)?;
         let written = write_all(
@@ -186,21 +224,25 @@ fn close(group: Option<Group>) {
     }
 }
 
-/// Draws the steps of a run and plays each: first unquiet ones, then quiet ones. It answers the steps.
+/// Plays the steps with which a run begins, draws the others and plays each: first unquiet ones, then quiet ones. It
+/// answers all steps.
 fn wander_on(
     alloc: Global,
     ledger: &mut Ledger,
     group: &mut Group,
     wander: &mut Wander,
-    events: u32,
+    course: Course<'_>,
 ) -> Result<Vec<Step>, SearchError> {
-    let mut steps = Vec::with_capacity(alloc, events as usize)?;
-    let unquiet = events / 4 * UNQUIET;
-    for name in 0..events {
+    let mut steps = Vec::with_capacity(alloc, course.events as usize)?;
+    let unquiet = wander.unquiet_of(course.events);
+    for name in 0..course.events {
         if name == unquiet {
             wander.calm();
         }
-        let step = wander.next(name)?;
+        let step = match course.first.get(name as usize) {
+            Some(step) => wander.repeat(*step),
+            None => wander.next(name)?,
+        };
         steps.push(step)?;
         if let Some(stepped) = ledger.play(alloc, group, step)? {
             wander.follow(group, ledger.dests(), step, stepped)?;

@@ -6,12 +6,13 @@ use crate::network::{Due, Network, only};
 use crate::random::Random;
 use crate::schedule::{Act, Body, Step};
 use hunt_ground::Group;
+use hunt_mean::Style;
 use msg_core::Dest;
 use std::alloc::Global;
 use view_core::{Change, Stepped};
 
-/// How many packets for each member may be on their way before members hold back their casts.
-const CROWD: usize = 6;
+/// The most casts in a row.
+const LONGEST_BURST: u32 = 40;
 
 /// The most packets that are lost in a row.
 const LOST_IN_ROW: u32 = 8;
@@ -20,7 +21,8 @@ const LOST_IN_ROW: u32 = 8;
 const QUIET_STRIDE: u32 = 60;
 
 /// A run as it goes on: what was drawn last, how the run behaves, what is on its way, the moment of all clocks, how
-/// many bodies there were, whose clock ticks next where it is quiet, and who is out.
+/// many bodies there were, whose clock ticks next where it is quiet, who is out, how many more casts in a row come,
+/// and whose these are.
 #[derive(Drop)]
 pub(crate) struct Wander {
     random: Random,
@@ -32,24 +34,38 @@ pub(crate) struct Wander {
     turn: u8,
     is_quiet: bool,
     gone: u32,
+    burst: u32,
+    caster: u8,
 }
 
 impl Wander {
-    /// A run of this many members, by its number.
-    pub(crate) fn new(alloc: Global, members: u8, run: u64) -> Result<Wander, SearchError> {
+    /// A run of this many members, by its number, in a style.
+    pub(crate) fn new(
+        alloc: Global,
+        members: u8,
+        run: u64,
+        style: Style,
+    ) -> Result<Wander, SearchError> {
         let mut random = Random::of(run);
-        let habits = Habits::draw(&mut random);
+        let habits = Habits::draw(&mut random, style, members);
         Ok(Wander {
             random,
             habits,
-            network: Network::new(alloc, members)?,
+            network: Network::new(alloc, members, habits.most_dues)?,
             members,
             moment: 0,
             bodies: 0,
             turn: 0,
             is_quiet: false,
             gone: 0,
+            burst: 0,
+            caster: 0,
         })
+    }
+
+    /// How many of this many events are unquiet.
+    pub(crate) fn unquiet_of(&self, events: u32) -> u32 {
+        (events / 4).saturating_mul(self.habits.unquiet)
     }
 
     /// From here on nothing is lost, and the members become quiet.
@@ -74,6 +90,12 @@ impl Wander {
         }
         if self.random.percent(self.habits.parts) {
             self.part();
+        }
+        if self.habits.crashes > 0 && self.random.percent(self.habits.crashes) {
+            self.crash();
+        }
+        if let Some(cast) = self.cast_in_row() {
+            return Ok(cast);
         }
         let often = self.random.below(100);
         let casts = self.habits.casts;
@@ -100,6 +122,10 @@ impl Wander {
 
     /// The network parts, or a member falls silent, or all is well again.
     fn part(&mut self) {
+        if self.habits.in_three {
+            self.part_in_three();
+            return;
+        }
         match self.random.below(3) {
             0 => self.network.side = self.random.below(u32::MAX),
             1 => self.network.silent = only(self.someone()),
@@ -107,11 +133,75 @@ impl Wander {
         }
     }
 
-    /// The first member, from a drawn one on, that is neither out nor silent, if there is one.
+    /// The network heals, or parts into three; then what can't come any more may be lost.
+    fn part_in_three(&mut self) {
+        let was_parted = self.network.is_parted();
+        self.network.mend();
+        if was_parted && self.random.percent(70) {
+            return;
+        }
+        for member in 0..self.members {
+            match self.random.below(3) {
+                0 => self.network.side |= only(member),
+                1 => self.network.other_side |= only(member),
+                _ => {}
+            }
+        }
+        if self.random.percent(50) {
+            self.network.lose_parted();
+        }
+    }
+
+    /// A member crashes, if more may. Of what it sent all, some or nothing still comes.
+    fn crash(&mut self) {
+        if self.habits.most_crashed == 0 {
+            return;
+        }
+        self.habits.most_crashed -= 1;
+        let member = self.someone();
+        let lost = 50 * self.random.below(3);
+        self.network.crash(member);
+        for place in (0..self.network.len()).rev() {
+            if let Some(due) = self.network.at(place)
+                && due.from == member
+                && self.random.percent(lost)
+            {
+                self.network.take(place);
+            }
+        }
+    }
+
+    /// A member that casts many times in a row goes on, or one begins.
+    fn cast_in_row(&mut self) -> Option<(u8, Act)> {
+        if self.habits.bursts == 0 {
+            return None;
+        }
+        if self.burst == 0 {
+            if !self.random.percent(self.habits.bursts) {
+                return None;
+            }
+            self.burst = self.random.below(LONGEST_BURST);
+            self.caster = self.someone();
+        }
+        if !self.is_up(self.caster) || self.random.percent(20) {
+            self.burst = self.burst.saturating_sub(4);
+            return None;
+        }
+        self.burst = self.burst.saturating_sub(1);
+        let body = self.body();
+        Some((self.caster, Act::Cast(body)))
+    }
+
+    /// Whether a member is neither out, nor silent, nor crashed.
+    fn is_up(&self, member: u8) -> bool {
+        (self.gone | self.network.idle()) & only(member) == 0
+    }
+
+    /// The first member, from a drawn one on, that is neither out nor silent nor crashed, if there is one.
     fn someone(&mut self) -> u8 {
         let mut member = self.random.member(self.members);
         for _ in 0..32 {
-            if (self.gone | self.network.silent) & only(member) == 0 {
+            if self.is_up(member) {
                 return member;
             }
             member = self.following(member);
@@ -127,7 +217,7 @@ impl Wander {
 
     /// A member casts, unless much is on its way.
     fn cast_or_give(&mut self) -> Result<(u8, Act), SearchError> {
-        if self.network.len() > CROWD * usize::from(self.members)
+        if self.network.len() > self.habits.crowd.saturating_mul(usize::from(self.members))
             && let Some(given) = self.give()?
         {
             return Ok(given);
@@ -166,9 +256,14 @@ impl Wander {
         (self.someone(), Act::Tick(self.moment))
     }
 
-    /// The members' clocks tick in turn.
+    /// The clocks of the members that didn't crash tick in turn.
     fn tick_in_turn(&mut self) -> (u8, Act) {
         self.turn = self.following(self.turn);
+        for _ in 0..32 {
+            if self.network.is_crashed(self.turn) {
+                self.turn = self.following(self.turn);
+            }
+        }
         self.moment = self.moment.saturating_add(QUIET_STRIDE);
         (self.turn, Act::Tick(self.moment))
     }
@@ -213,6 +308,16 @@ impl Wander {
             self.network.take(place);
             Ok(())
         }
+    }
+
+    /// A step of another run is the next one of this run: its packet has come, and clocks don't go back.
+    pub(crate) fn repeat(&mut self, step: Step) -> Step {
+        match step.act {
+            Act::Give(source) => self.network.arrive(source, step.member),
+            Act::Tick(moment) => self.moment = self.moment.max(moment),
+            _ => {}
+        }
+        step
     }
 
     /// Takes in what a step yielded: the packets that it sent to these are on their way, and a member that is in

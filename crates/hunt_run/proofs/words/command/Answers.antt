@@ -11,4 +11,5 @@ returns c =
     let four = c.in_ok-command-4.ensures ∙ ap₂ with_rule three c.option-3.ensures.rule in
     let five = c.in_ok-command-5.ensures ∙ ap₂ with_rule four c.option-4.ensures.rule in
     let six = c.in_ok-command-6.ensures ∙ ap₂ with_rule five c.option-5.ensures.rule in
-    IfOk-weaker c.with-7.result _ _ (λ longer is. is ∙ ap₂ with_rule six c.option-6.ensures.rule) c.with-7.ensures
+    let seven = c.in_ok-command-7.ensures ∙ ap₂ with_rule six c.option-6.ensures.rule in
+    IfOk-weaker c.with-8.result _ _ (λ longer is. is ∙ ap₂ with_rule seven c.option-7.ensures.rule) c.with-8.ensures
