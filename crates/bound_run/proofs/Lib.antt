@@ -1,0 +1,5 @@
+mod Answered
+mod Ran
+mod Fetched
+mod Through
+mod Alike

@@ -1,0 +1,4 @@
+pub mod Reading
+pub mod Shown
+pub mod Looks
+pub mod Fetching

@@ -1,0 +1,3 @@
+mod Kept
+mod Reported
+mod Judged
