@@ -1,0 +1,5 @@
+mod Others
+mod Rules
+mod Short
+mod Stepped
+mod Tells

@@ -1,0 +1,5 @@
+mod AsBox
+mod Opens
+mod Rules
+mod Sound
+mod Texts
