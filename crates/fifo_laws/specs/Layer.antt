@@ -35,6 +35,7 @@ numbers_it = block (
     emit (cast_down (local 0) 1 (element 0 (number 0) ∷ []))
     ∷ assign 0 (number 0) (binary Add (element 0 (number 0)) (number 1)) ∷ [])
 
+-- The statements of a cast that is due on its way up.
 abbrev pub delivers_it : StatementTrees
 delivers_it = block (assign 1 (local 0) (binary Add (local 1) (number 1)) ∷ emit (cast_up (local 0)) ∷ [])
 
@@ -55,5 +56,6 @@ fifo = record {
 abbrev pub stack : List LayerTree
 stack = fifo ∷ []
 
+-- The text is a file that means this stack.
 abbrev pub TextMeans : Type 0
 TextMeans = stack_of (file_of text) ≡ stack

@@ -23,6 +23,7 @@ cast_to true p All = Some (p.sender, hex_text p.message.body)
 cast_to true p (Rank r) = None
 cast_to false p dest = None
 
+-- A packet as a cast of this peer, where it is one.
 abbrev pub cast_in : ℕ → Packet → Option (ℕ × Word)
 cast_in peer p = cast_to (p.sender == peer) p p.dest
 
@@ -36,14 +37,16 @@ pub record IsCast (packets : List Packet) (p : Packet) : Type 0 where
   pub message : p.message ≡ numbered number p.message.body
   pub cast : slice_get (casts_of packets p.sender) number ≡ Some (p.sender, hex_text p.message.body)
 
+-- A packet to all is a cast with its number; of one to a rank nothing is asked.
 abbrev pub IsSentTo : List Packet → Packet → Dest → Type 0
 IsSentTo packets p All = IsCast packets p
 IsSentTo packets p (Rank r) = Unit {0}
 
--- How many of a peer's casts a member has delivered.
+-- A delivery of a cast in the first view, as an audit has it.
 abbrev pub delivery : (line id peer : ℕ) → Word → Entry
 delivery line id peer body = record { line = line; member = id; segment = first_segment; peer = peer; body = body }
 
+-- How many of a peer's casts a member has delivered.
 abbrev pub got : List Entry → (id peer : ℕ) → ℕ
 got entries id peer = place_after of_each_peer entries (delivery 0 id peer [])
 

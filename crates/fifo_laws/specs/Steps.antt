@@ -51,6 +51,7 @@ come_up me n ltime k e p q body true = record {
 come_up me n ltime k e p q body false =
     record { state = holding me n ltime k e; sent = []; decided = unusual ∷ [] }
 
+-- The visit of every cast that comes up is that one.
 abbrev pub CastComesUp : Type 0
 CastComesUp = (me n ltime k : ℕ) (e : List ℕ) (p q : ℕ) (body : List ℕ) →
     step 0 fifo (holding me n ltime k e) Up (cast p (numbered q body)) ≡
@@ -84,6 +85,7 @@ numbered_packet there sender q body = record {
   message = numbered q body;
 }
 
+-- The step of another member's cast: it is delivered where it is due, and else dropped.
 abbrev pub after_given : (p : Packet) (me n ltime k : ℕ) (e : List ℕ) (q : ℕ) (body : List ℕ) → Bool → Step
 after_given p me n ltime k e q body true =
     went (from_peer p) (holding me n ltime k (slice_set e p.sender ((q + 1) % 2 ^ 32)))
@@ -92,6 +94,7 @@ after_given p me n ltime k e q body true =
 after_given p me n ltime k e q body false =
     went (from_peer p) (holding me n ltime k e) [] [] (unusual ∷ [])
 
+-- The step of every packet of another member's cast is that one.
 abbrev pub GivenSteps : Type 0
 GivenSteps = (here there : Here) (id me n ltime k : ℕ) (e : List ℕ) (sender q : ℕ) (body : List ℕ) →
     step_from stack here id (holding me n ltime k e ∷ []) (from_peer (numbered_packet there sender q body)) ≡
@@ -101,30 +104,37 @@ GivenSteps = (here there : Here) (id me n ltime k : ℕ) (e : List ℕ) (sender 
 abbrev pub send_event : ℕ → Content → Event
 send_event peer m = record { kind = Send; peer = peer; a = 0; b = 0; message = Some m }
 
+-- Whether a message has no header, or a first one with the tag 0, that of `none`.
 abbrev pub is_bare : Content → Bool
 is_bare m = said_tag (first_of m.headers) == 0
 
+-- The step of a send that arrives: it is delivered where it is bare, and else dropped.
 abbrev pub after_send_given : Packet → State → Bool → Step
 after_send_given p s true = went (from_peer p) s (deliver_send p.sender p.message.body ∷ [])
     ((Up, send_event p.sender (popped p.message)) ∷ []) []
 after_send_given p s false = went (from_peer p) s [] [] (unusual ∷ [])
 
+-- The step of every packet to a rank is that one.
 abbrev pub SendGivenSteps : Type 0
 SendGivenSteps = (here : Here) (id : ℕ) (p : Packet) (r : ℕ) (s : State) →
     step_from stack here id (s ∷ []) (from_peer (record p { dest = Rank r }))
     ≡ after_send_given (record p { dest = Rank r }) s (is_bare p.message)
 
+-- A send of the application, as it leaves the layer.
 abbrev pub sent_down : ℕ → List ℕ → Event
 sent_down to body = send_event to (pushed (none_header 0) (plain body))
 
+-- Whether a send to this rank becomes a packet: there is such a member, and it is another one.
 abbrev pub goes_out : Here → ℕ → Bool
 goes_out here to = nat_lt to (member_count here.view) && not (to == here.rank)
 
+-- The step of the application's send: a packet, or nowhere to go.
 abbrev pub after_send : Here → ℕ → List ℕ → State → Bool → Step
 after_send here to body s true = went (app_send to body) s (packet (packet_to here (Rank to) (sent_down to body)) ∷ [])
     ((Down, sent_down to body) ∷ []) []
 after_send here to body s false = went (app_send to body) s (nowhere ∷ []) ((Down, sent_down to body) ∷ []) []
 
+-- The step of every send of the application is that one.
 abbrev pub SendSteps : Type 0
 SendSteps = (here : Here) (id to : ℕ) (body : List ℕ) (s : State) →
     step_from stack here id (s ∷ []) (app_send to body) ≡ after_send here to body s (goes_out here to)
@@ -134,6 +144,7 @@ abbrev pub LeaveSteps : Type 0
 LeaveSteps = (here : Here) (id : ℕ) (s : State) → step_from stack here id (s ∷ []) app_leave
     ≡ went app_leave s (quiet Down (signal Leave 0 0) ∷ []) ((Down, signal Leave 0 0) ∷ []) []
 
+-- A moment of the clock goes up to the edge.
 abbrev pub TickSteps : Type 0
 TickSteps = (here : Here) (id moment : ℕ) (s : State) → step_from stack here id (s ∷ []) (clock_tick moment)
     ≡ went (clock_tick moment) s (quiet Up (signal Timer moment 0) ∷ []) ((Up, signal Timer moment 0) ∷ []) []

@@ -14,6 +14,7 @@ use Rattle.layer_mean.specs.Effect.{Decision, usual, unusual}
 use Rattle.layer_mean.specs.Visit.{Visited, fresh, step}
 use Rattle.layer_rows.specs.Words.{cast_down, block, handler, cell_of_one, passing, cast}
 
+-- It writes 5 at the place k & 1 of an array, counts the cast in k, and then asks whether the first place has 5.
 abbrev pub alias : LayerTree
 alias = record {
   name = codes "alias";

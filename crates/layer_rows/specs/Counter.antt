@@ -15,6 +15,7 @@ use Rattle.layer_mean.specs.Visit.{fresh}
 use Rattle.layer_mean.specs.Queue.{Task, run}
 use Rattle.layer_rows.specs.Words.{cast_down, cast_up, handler, cell_of_one, passing}
 
+-- The counter layer: it numbers casts, and expects those of a peer in order.
 abbrev pub counter : LayerTree
 counter = record {
   name = codes "cnt";

@@ -29,6 +29,7 @@ flip_where expected = record {
       ) ∷ [];
 }
 
+-- The layer for which every cast is the common case.
 abbrev pub flip : LayerTree
 flip = flip_where always
 
@@ -54,6 +55,7 @@ pub record Told : Type 0 where
   pub first : Bool × Option ℕ
   pub second : Bool × Option ℕ
 
+-- These of a list of decisions.
 abbrev pub told_cases : List Decision → Told
 told_cases decided = record {
   first = (all_as First decided, first_missed First decided);

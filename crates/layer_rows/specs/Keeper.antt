@@ -13,6 +13,7 @@ use Rattle.layer_mean.specs.Effect.{usual, unusual}
 use Rattle.layer_mean.specs.Visit.{fresh, step}
 use Rattle.layer_rows.specs.Words.{cast_of, cast_down, block, handler, cell_of_one, passing, ending, cast}
 
+-- A layer whose queue has room for one number: a cast that finds it full sends a message of its own first.
 abbrev pub keeper : LayerTree
 keeper = record {
   name = codes "one";

@@ -52,6 +52,7 @@ looping below = record {
       )) { numbers = 1 } ∷ [];
 }
 
+-- The state of that layer at the one member of a group.
 abbrev pub counter_state : ℕ → State
 counter_state s = record { me = 0; count = 1; ltime = 0; cells = state.numbers (s ∷ []) ∷ [] }
 

@@ -70,12 +70,15 @@ total = record {
 abbrev pub cast_at : ℕ → Task Event
 cast_at places = record { at = places; dir = Down; event = cast 0 (plain (codes "a")) }
 
+-- A header of a place.
 abbrev pub header : ℕ → ℕ → List ℕ → Header
 header place tag fields = record { layer = place; tag = tag; fields = fields }
 
+-- Its delivery at home.
 abbrev pub delivery : Dir × Event
 delivery = (Up, cast 0 (plain (codes "a")))
 
+-- Its packet, under these headers.
 abbrev pub packet : List Header → Dir × Event
 packet headers = (Down, cast 0 (record { headers = headers; body = codes "a" }))
 

@@ -53,6 +53,7 @@ Computes =
 abbrev pub number_row : ℕ → Row
 number_row x = record { numbers = x ∷ []; message = None }
 
+-- A row of one number and a message.
 abbrev pub message_row : ℕ → Row
 message_row x = record { numbers = x ∷ []; message = Some (plain (codes "hi")) }
 

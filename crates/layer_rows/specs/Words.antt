@@ -57,6 +57,7 @@ cell_of_one name initial = record { name = name; form = numbers One (number init
 abbrev pub passing : List ℕ → ℕ → HeaderTree
 passing name fields = record { name = name; fields = fields; ends = false }
 
+-- A header that ends the chain.
 abbrev pub ending : List ℕ → ℕ → HeaderTree
 ending name fields = record { name = name; fields = fields; ends = true }
 

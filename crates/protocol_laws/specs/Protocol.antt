@@ -42,6 +42,7 @@ pub record IsIn (p : Protocol) (v : View) (packets : List Packet) (entries : Lis
   pub rank_is : rank v id ≡ Some me
   pub at : p.IsAt packets entries id me states
 
+-- A member of the view is as the protocol says; of one that is out nothing is asked.
 abbrev pub IsMember : Protocol → View → List Packet → List Entry → ℕ → Member → Type 0
 IsMember p v packets entries id (inside view states) = IsIn p v packets entries id view states
 IsMember p v packets entries id out = Unit {0}
@@ -58,6 +59,7 @@ pub record Stands (p : Protocol) (v : View) (left : ℕ) (w : World) (entries : 
 abbrev pub sent_in : Step → List Packet
 sent_in s = filter_map packet_in s.outputs
 
+-- The deliveries of a step of this member.
 abbrev pub delivered_in : ℕ → ℕ → Step → List Entry
 delivered_in n id s = deliveries_from n (flat_map (output_said id) s.outputs)
 
@@ -84,6 +86,7 @@ pub record Arrived (p : Protocol) (packets : List Packet) (here : Here) (q : Pac
   pub sent : p.IsSent packets q
   pub meant : IsFor here q
 
+-- What enters a step: a packet arrived, and of other inputs nothing is asked.
 abbrev pub Arrives : Protocol → List Packet → Here → Entered → Type 0
 Arrives p packets here (from_peer q) = Arrived p packets here q
 Arrives p packets here _ = Unit {0}

@@ -64,6 +64,7 @@ abbrev pub last_world : World → List Moment → World
 last_world w [] = w
 last_world w (m ∷ run) = last_world m.happening.world run
 
+-- The packets in that world.
 abbrev pub all_sent : List LayerTree → Script → List Packet
 all_sent stack s =
     (last_world (first_world stack s.group s.stamp s.members) (run_of stack (plans_of stack) s)).packets
@@ -80,9 +81,11 @@ RunsKeep = (stack : List LayerTree) (P : Property) (s : Script) → TypedStack s
 abbrev pub Test : Type 0
 Test = (left : ℕ) → World → (past : List ReportLine) → Bool
 
+-- What a test that passes says.
 abbrev pub Passes : Test → Property
 Passes test left w past = test left w past ≡ true
 
+-- A test that passes at first, and that each step keeps, passes at the end of the run of every fair script.
 abbrev pub TestsKeep : Type 0
 TestsKeep = (stack : List LayerTree) (test : Test) (s : Script) → TypedStack stack → IsKept stack (Passes test) →
     IsFair s → Passes test (length s.events) (first_world stack s.group s.stamp s.members) [] →

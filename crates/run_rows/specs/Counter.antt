@@ -6,6 +6,7 @@ use Rattle.run_mean.specs.Mode.{layered, bypass}
 use Rattle.layer_rows.specs.Counter.{counter}
 use Rattle.run_rows.specs.Written.{script_output}
 
+-- The cast `hi` of member 0.
 abbrev pub hi : ScriptEvent
 hi = script.Cast 0 (codes "hi")
 
@@ -13,11 +14,13 @@ hi = script.Cast 0 (codes "hi")
 abbrev pub given_twice : List ScriptEvent
 given_twice = hi ∷ script.Give 1 1 ∷ script.Give 1 1 ∷ script.Show 1 ∷ []
 
+-- What is written of that.
 abbrev pub given_twice_report : List ℕ
 given_twice_report =
     codes "packet 1 0 all cnt.num(0) 6869\n" ++ codes "deliver 1 cast 0 6869\n" ++ codes "deliver 1 cast 0 6869\n"
     ++ codes "state 1 0 7\n" ++ codes "cell 1 0 cnt.k 0\n" ++ codes "cell 1 0 cnt.e 1 0 0\n" ++ codes "end 4\n"
 
+-- The report is one in both modes; by bypasses the second give alone visits the layer.
 abbrev pub GivenTwice : Type 0
 GivenTwice =
     (script_output (counter ∷ []) 7 3 given_twice layered false true ≡ given_twice_report ++ codes "visits 3\n")
@@ -39,6 +42,7 @@ Wires =
 abbrev pub swapped_script : List ScriptEvent
 swapped_script = hi ∷ script.Cast 0 [] ∷ script.Give 2 1 ∷ script.Give 1 1 ∷ script.Show 1 ∷ []
 
+-- What is written of that.
 abbrev pub swapped_report : List ℕ
 swapped_report =
     codes "packet 1 0 all cnt.num(0) 6869\n" ++ codes "packet 2 0 all cnt.num(1) -\n" ++ codes "deliver 1 cast 0 -\n"
@@ -46,6 +50,7 @@ swapped_report =
     codes "cell 1 0 cnt.e 1 0 0\n"
     ++ codes "end 5\n"
 
+-- The report is one in both modes; by bypasses the two gives alone visit the layer.
 abbrev pub GivenSwapped : Type 0
 GivenSwapped =
     (script_output (counter ∷ []) 7 3 swapped_script layered false true ≡ swapped_report ++ codes "visits 4\n")

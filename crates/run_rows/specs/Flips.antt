@@ -15,14 +15,17 @@ use Rattle.run_mean.specs.World.{Did, taken}
 use Rattle.layer_rows.specs.Fork.{flip}
 use Rattle.run_rows.specs.Written.{script_output}
 
+-- Three casts of member 0.
 abbrev pub three_casts : List ScriptEvent
 three_casts = script.Cast 0 [] ∷ script.Cast 0 [] ∷ script.Cast 0 [] ∷ []
 
+-- What is written of them.
 abbrev pub three_packets : List ℕ
 three_packets =
     codes "packet 1 0 all flip.a(1) -\n" ++ codes "packet 2 0 all flip.b(2) -\n" ++ codes "packet 3 0 all flip.a(3) -\n"
     ++ codes "end 3\n"
 
+-- The report is one in both modes; by bypasses no visit is made.
 abbrev pub ThreeFlips : Type 0
 ThreeFlips =
     (script_output (flip ∷ []) 1 2 three_casts layered false true ≡ three_packets ++ codes "visits 3\n")
@@ -48,6 +51,7 @@ abbrev pub case_in : List LayerTree → List Plan → Did → Option Case
 case_in stack plans (taken s) = case_of stack plans s
 case_in stack plans _ = None
 
+-- The case of each event of a script in a group of two.
 abbrev pub cases : List LayerTree → List ScriptEvent → List (Option Case)
 cases stack events = map (λ m. case_in stack (plans_of stack) m.happening.did)
     (run_of stack (plans_of stack) (record { group = 1; stamp = 1; members = 2; events = events }))

@@ -20,6 +20,7 @@ file = record (file_of (codes "stack { bottom; mnak; frag(piece = 2); }")) {
 abbrev pub backwards : List ScriptEvent
 backwards = script.Cast 0 (codes "abcde") ∷ script.Give 3 1 ∷ script.Give 2 1 ∷ script.Give 1 1 ∷ []
 
+-- The pieces that are missing are asked for, and the cast is delivered whole once the first is there.
 abbrev pub JoinsPieces : Type 0
 JoinsPieces = script_report (stack_of file) 1 2 backwards ≡
     codes "packet 1 0 all bottom.net(1)/mnak.num(0)/frag.some() 6162\n"

@@ -24,6 +24,7 @@ OneDatagram = (mode : Mode) →
 abbrev pub empty : LayerTree
 empty = record { name = codes "empty"; cells = []; headers = []; handlers = [] }
 
+-- What is counted of that.
 abbrev pub OneSend : Type 0
 OneSend =
     concat (tally (empty ∷ []) (plans_of (empty ∷ [])) bypass (generate 14 1 1 false))

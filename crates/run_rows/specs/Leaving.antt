@@ -8,6 +8,7 @@ use Rattle.layer_rows.specs.Keeper.{keeper}
 use Rattle.layer_rows.specs.Words.{handler}
 use Rattle.run_rows.specs.Written.{script_report}
 
+-- The layer that announces an empty view.
 abbrev pub quit : LayerTree
 quit = record {
   name = codes "quit";

@@ -7,6 +7,7 @@ use Rattle.run_mean.specs.Mode.{Mode, layered, bypass}
 use Rattle.layer_rows.specs.Tower.{bottom, counting, loopback, total}
 use Rattle.run_rows.specs.Written.{script_output}
 
+-- A cast of one byte by member 0.
 abbrev pub one_cast : List ScriptEvent
 one_cast = script.Cast 0 (codes "a") ∷ []
 

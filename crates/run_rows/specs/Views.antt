@@ -25,6 +25,7 @@ beginning =
     script.Tick 0 0 ∷ script.Tick 1 0 ∷ script.Tick 2 0 ∷ script.Tick 0 400 ∷ script.Tick 1 400 ∷ script.Give 1 1
     ∷ script.Give 3 0 ∷ script.Tick 0 600 ∷ []
 
+-- What is written of that.
 abbrev pub beginning_report : List ℕ
 beginning_report =
     codes "timer 0 100\n" ++ codes "timer 1 100\n" ++ codes "timer 2 100\n"
@@ -38,6 +39,7 @@ beginning_report =
 abbrev pub ending : List ScriptEvent
 ending = script.Give 7 1 ∷ script.Give 8 0 ∷ script.Give 9 1 ∷ script.Give 5 1 ∷ script.Tick 2 600 ∷ []
 
+-- What is written of that, and the end.
 abbrev pub ending_report : List ℕ
 ending_report =
     codes "block 1 4\n" ++ codes "packet 8 1 0 suspect.none()/elect.none()/sync.flush() -\n" ++ codes "announce 0 3\n"
@@ -46,5 +48,6 @@ ending_report =
     ++ codes "packet 10 2 0 suspect.ping() -\n" ++ codes "packet 11 2 1 suspect.ping() -\n" ++ codes "timer 2 700\n"
     ++ codes "block 2 3\n" ++ codes "announce 2 4\n" ++ codes "view 2 1 4\n" ++ codes "end 13\n"
 
+-- The whole report of both.
 abbrev pub InstallsViews : Type 0
 InstallsViews = script_report (stack_of file) 1 3 (beginning ++ ending) ≡ beginning_report ++ ending_report

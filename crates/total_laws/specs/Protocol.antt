@@ -28,6 +28,7 @@ order_to true p All = Some (origin_in p.message.headers, hex_text p.message.body
 order_to true p (Rank r) = None
 order_to false p dest = None
 
+-- A packet as the cast that it orders, where it is one of rank 0 to all.
 abbrev pub order_in : Packet → Option (ℕ × Word)
 order_in p = order_to (p.sender == 0) p p.dest
 
@@ -48,10 +49,11 @@ abbrev pub IsSentTo : List Packet → Packet → Dest → Type 0
 IsSentTo packets p All = IsOrder packets p
 IsSentTo packets p (Rank r) = (p.message ≡ asked p.message.body) ⊎ (p.message ≡ sent_alone p.message.body)
 
--- How many casts a member has delivered.
+-- A delivery of a cast in the first view, as an audit has it.
 abbrev pub delivery : (line id peer : ℕ) → Word → Entry
 delivery line id peer body = record { line = line; member = id; segment = first_segment; peer = peer; body = body }
 
+-- How many casts a member has delivered.
 abbrev pub got : List Entry → ℕ → ℕ
 got entries id = place_after whole entries (delivery 0 id 0 [])
 

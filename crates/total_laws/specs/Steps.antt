@@ -18,6 +18,7 @@ use Rattle.library_rows.specs.OrderStack.{stack}
 abbrev pub plain_state : (me n ltime : ℕ) → State
 plain_state me n ltime = record { me = me; count = n; ltime = ltime; cells = [] }
 
+-- The state of `total`.
 abbrev pub counting : (me n ltime out next : ℕ) → State
 counting me n ltime out next = record {
   me = me;
@@ -26,6 +27,7 @@ counting me n ltime out next = record {
   cells = state.numbers (out ∷ []) ∷ state.numbers (next ∷ []) ∷ [];
 }
 
+-- The states of the three layers, the lowest first.
 abbrev pub holding : (me n ltime out next : ℕ) → List State
 holding me n ltime out next =
     plain_state me n ltime ∷ plain_state me n ltime ∷ counting me n ltime out next ∷ []
@@ -34,12 +36,15 @@ holding me n ltime out next =
 abbrev pub header : (layer tag : ℕ) → List ℕ → Header
 header layer tag fields = record { layer = layer; tag = tag; fields = fields }
 
+-- A body after these headers.
 abbrev pub after : List Header → List ℕ → Content
 after headers body = record { headers = headers; body = body }
 
+-- The header of `bottom`, whose field is 1.
 abbrev pub net : Header
 net = header 0 1 (1 ∷ [])
 
+-- The header `none` of `local`.
 abbrev pub none_of_local : Header
 none_of_local = header 1 0 []
 
@@ -51,6 +56,7 @@ num origin seq = header 2 1 (origin ∷ seq ∷ [])
 abbrev pub ask : Header
 ask = header 2 2 []
 
+-- The header `none` of `total`, of what is sent alone.
 abbrev pub none_of_total : Header
 none_of_total = header 2 0 []
 
@@ -58,12 +64,15 @@ none_of_total = header 2 0 []
 abbrev pub ordered : (origin seq : ℕ) → List ℕ → Content
 ordered origin seq body = after (net ∷ none_of_local ∷ num origin seq ∷ []) body
 
+-- What rank 0 is asked to order.
 abbrev pub asked : List ℕ → Content
 asked body = after (net ∷ none_of_local ∷ ask ∷ []) body
 
+-- What is sent to one member alone.
 abbrev pub sent_alone : List ℕ → Content
 sent_alone body = after (net ∷ none_of_local ∷ none_of_total ∷ []) body
 
+-- A send to a rank, or from it.
 abbrev pub send : ℕ → Content → Event
 send peer m = record { kind = Send; peer = peer; a = 0; b = 0; message = Some m }
 
@@ -71,6 +80,7 @@ send peer m = record { kind = Send; peer = peer; a = 0; b = 0; message = Some m 
 abbrev pub from_above : Event → Task Event
 from_above event = record { at = 3; dir = Down; event = event }
 
+-- A task at the lowest place, on its way up.
 abbrev pub from_below : Event → Task Event
 from_below event = record { at = 1; dir = Up; event = event }
 
@@ -111,10 +121,12 @@ abbrev pub due_states : (me n ltime out next : ℕ) → Bool → List State
 due_states me n ltime out next true = holding me n ltime out ((next + 1) % 2 ^ 32)
 due_states me n ltime out next false = holding me n ltime out next
 
+-- What a cast in its place puts out: a delivery where it is due.
 abbrev pub due_outs : (origin : ℕ) → List ℕ → Bool → List (Dir × Event)
 due_outs origin body true = (Up, cast origin (plain body)) ∷ []
 due_outs origin body false = []
 
+-- The run of every cast that arrives in its place.
 abbrev pub OrderedComes : Type 0
 OrderedComes = (me n ltime out next peer origin seq : ℕ) (body : List ℕ) →
     Runs (holding me n ltime out next) (from_below (cast peer (ordered origin seq body)))
@@ -126,16 +138,19 @@ SendsPass = (me n ltime out next to : ℕ) (body : List ℕ) →
     Runs (holding me n ltime out next) (from_above (send to (plain body))) (holding me n ltime out next)
     ((Down, send to (sent_alone body)) ∷ [])
 
+-- What was sent alone is delivered as its sender's.
 abbrev pub SentComes : Type 0
 SentComes = (me n ltime out next peer : ℕ) (body : List ℕ) →
     Runs (holding me n ltime out next) (from_below (send peer (sent_alone body))) (holding me n ltime out next)
     ((Up, send peer (plain body)) ∷ [])
 
+-- A wish to leave goes down to the edge.
 abbrev pub LeavePasses : Type 0
 LeavePasses = (me n ltime out next : ℕ) →
     Runs (holding me n ltime out next) (from_above (signal Leave 0 0)) (holding me n ltime out next)
     ((Down, signal Leave 0 0) ∷ [])
 
+-- A moment of the clock goes up to the edge.
 abbrev pub TickPasses : Type 0
 TickPasses = (me n ltime out next moment : ℕ) →
     Runs (holding me n ltime out next) (from_below (signal Timer moment 0)) (holding me n ltime out next)
