@@ -2,12 +2,15 @@
 """Hunts for breaches in layers of the library and the tutorial with one line changed, and in the stacks as they are.
 
 usage: STACKHUNT=PROGRAM STACKC=PROGRAM bench/hunts.py [NAME..]
+       STACKHUNT=PROGRAM bench/hunts.py --seeds N
 
 For each it prints the law, the seed, the run that broke it, how many events the run had and how many are left, the time, and whether the script that was written holds: its
-report, by the other program, breaks the law, and none of its events can be taken out, be packets numbered anew or not.
+report, by the other program, breaks the law, and none of its events can be taken out, be packets numbered anew or not. With `--seeds` it prints how many events are left of
+the finds of N seeds, of these layers and of the wrong Paxos of examples/: the median, the least and the most, and the mean time.
 """
 import os
 import re
+import statistics
 import subprocess
 import sys
 import tempfile
@@ -171,7 +174,35 @@ def holds(folder, path, law, script):
     return "holds", len(events)
 
 
+def sizes(path, law, members, events, seeds):
+    """How many events are left of the finds of so many seeds, and the seconds that each hunt took."""
+    found = []
+    for seed in range(1, seeds + 1):
+        status, script, _said, seconds = hunted(path, law, members, events, 1000 * seed, RUNS)
+        if status == 8:
+            found.append((sum(not line.startswith("#") for line in script.splitlines()) - 1, seconds))
+    return found
+
+
+def print_sizes(seeds):
+    """A table of what is left of the finds of so many seeds."""
+    print("| Layer | What is changed | Finds | Median | Least | Most | Seconds |")
+    print("|---|---|---|---|---|---|---|")
+    with tempfile.TemporaryDirectory(prefix="hunts-") as folder:
+        rows = [(what, layer, put(folder, f"{k}.layers", changed_file(layer, place, line, other, stack)), law, members, events)
+                for k, (what, layer, place, line, other, stack, law, members, events) in enumerate(CHANGED)]
+        rows.append(("a vote that is told of isn't taken over", "paxos-wrong", os.path.join(TOP, "examples", "paxos-wrong.layers"), "total", 3, 150))
+        for what, layer, path, law, members, events in rows:
+            found = sizes(path, law, members, events, seeds)
+            lengths = [length for length, _seconds in found] or [0]
+            mean = statistics.mean([seconds for _length, seconds in found] or [0])
+            print(f"| {layer} | {what} | {len(found)} | {statistics.median(lengths):g} | {min(lengths)} | {max(lengths)} | {mean:.2f} |", flush=True)
+
+
 def main():
+    if sys.argv[1:2] == ["--seeds"]:
+        print_sizes(int(sys.argv[2]))
+        return
     with tempfile.TemporaryDirectory(prefix="hunts-") as folder:
         print("| Layer | What is changed | Law | Seed | Run | Events | Left | Seconds | Script | As it is |")
         print("|---|---|---|---|---|---|---|---|---|---|")
