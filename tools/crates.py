@@ -3,7 +3,7 @@
 docs/ARCHITECTURE.md that says which change proves how much again.
 
     tools/crates.py             writes the pages
-    tools/crates.py --check     prints what differs where a page is stale, and ends with 1
+    tools/crates.py --check     prints what differs where a page is stale, and what pages name that isn't there, and ends with 1
     tools/crates.py --above     prints how many crates stand on each, the most first
 
 The groups are the headings of crates.txt. Of a crate's README the first sentence after the title tells what it promises; one that is long is cut at
@@ -18,6 +18,10 @@ import sys
 TOP = os.path.join(os.path.dirname(os.path.abspath(__file__)), "..")
 PAGE = "crates/README.md"
 MAP = "docs/ARCHITECTURE.md"
+NAMING = ("docs/ARCHITECTURE.md", "docs/CHANGING.md", "docs/GLOSSARY.md")
+# A crate with what is meant of it: files, modules, words in back quotes.
+PLACES = re.compile(r"\b([a-z]+(?:_[a-z]+)+): ((?:[`\w(), /<>-]|\.\w)+)")
+NAMES = re.compile(r"\b\w+\.rt\b|\b[A-Z]\w+|(?<=`)[a-z]+_[a-z_]+(?=`)")
 BETWEEN = re.compile(r"(<!-- made by tools/crates\.py -->\n).*?(<!-- end -->)", re.S)
 BELOW_MANY = "msg_core layer_words layer_mean stack_mean packet_mean run_mean layer_ast fault_mean file_mean file_laws lack_mean audit_mean job_mean group_member outside"
 LONG = 200
@@ -130,6 +134,23 @@ def map_page():
     return BETWEEN.sub(lambda found: found[1] + table() + found[2], read(MAP))
 
 
+def strangers():
+    """What pages name beside a crate, as `crate: file.rt, Module`, that isn't there, nor the crate."""
+    words = {}
+    for page in NAMING:
+        for number, line in enumerate(read(page).split("\n"), 1):
+            for crate, places in PLACES.findall(line):
+                if not os.path.isdir(path("crates", crate)):
+                    yield f"{page}:{number}: there is no crate {crate}"
+                    continue
+                if crate not in words:
+                    files = [file for kind in ("src", "specs", "proofs") for file in glob.glob(path("crates", crate, kind, "**", "*.*"), recursive=True)]
+                    words[crate] = {os.path.basename(file).removesuffix(".antt") for file in files}.union(*(re.findall(r"\w+", read(file)) for file in files))
+                for name in NAMES.findall(places):
+                    if name not in words[crate]:
+                        yield f"{page}:{number}: {crate} has no {name}"
+
+
 def print_above():
     graph = {crate: below for _, crates in groups() for crate, below in crates}
     for crate, some in sorted(above(graph).items(), key=lambda pair: (-len(pair[1]), pair[0])):
@@ -140,7 +161,12 @@ def main():
     if sys.argv[1:] == ["--above"]:
         print_above()
         return 0
-    stale = 0
+    if sys.argv[1:] == ["--check"]:
+        unknown = list(strangers())
+        print(*unknown, sep="\n", end="\n" if unknown else "")
+        stale = int(bool(unknown))
+    else:
+        stale = 0
     for name, new in ((PAGE, page()), (MAP, map_page())):
         old = read(name) if os.path.exists(path(name)) else ""
         if sys.argv[1:] == ["--check"]:

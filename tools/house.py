@@ -1,5 +1,5 @@
 #!/usr/bin/env python3
-"""Counts what the house asks of the sources: lines of functions, arguments, columns, what stands twice, crates, pages.
+"""Counts what the house asks of the sources: lines of functions, arguments, columns, what stands twice, comments, must-fail edits, crates, pages.
 
     tools/house.py            prints a table
     tools/house.py --names    and the worst of each kind, with their places
@@ -19,17 +19,21 @@ MOST_ARGUMENTS = 5
 COLUMNS = 120
 TWICE = 12
 MANY_CRATES = 3
+MOST_EDITS = 2
+COSTLY = 120  # processor seconds of a crate's proof (bench/costs.tsv), of which an edit takes up to as many
 PROVED = ("src/**/*.rt", "specs/**/*.antt", "proofs/**/*.antt")
 
 # What there may be at most.
 BOUNDS = {
     "bodies": 40,  # of over LONGEST_BODY lines
-    "arguments": 65,  # functions that take over MOST_ARGUMENTS
+    "arguments": 64,  # functions that take over MOST_ARGUMENTS
     "wide": 8,  # lines of over COLUMNS columns
-    "bare": 4,  # public items of the code without a comment
+    "bare": 1,  # public items of the code without a comment
     "bare definitions": 0,  # public definitions of crates of meanings without a comment
+    "bare words": 1013,  # those of all other crates
     "types": 0,  # names of public types that stand in MANY_CRATES crates
     "homes": 8,  # limits with a second home, and names with one number in two crates
+    "edits": 0,  # must-fail edits that can't be applied, and crates with over MOST_EDITS of them or with some where a check is COSTLY
     "words of README.md": 1200,
 }
 
@@ -171,25 +175,33 @@ def is_said(lines, at):
 
 
 def bare_items():
-    """Items of the code that others may use and over which no comment stands."""
+    """Items of the code that others may use, functions of public traits among them, over which no comment stands."""
     head = re.compile(r"\s*pub(?:\([a-z]+\))? (?:const )?(?:fn|struct|enum|trait|type|const|static) (\w+)")
+    inner = re.compile(r"    fn (\w+)")
     for path in paths("src/**/*.rt"):
-        lines = lines_of(path)
+        lines, in_trait = lines_of(path), False
         for at, line in enumerate(lines):
-            if head.match(line) and not is_said(lines, at):
-                yield path, at + 1, head.match(line)[1]
+            in_trait = line.startswith("pub trait ") or (in_trait and line[:1] in ("", " "))
+            found = head.match(line) or (in_trait and inner.match(line))
+            if found and not is_said(lines, at):
+                yield path, at + 1, found[1]
 
 
 def bare_definitions():
-    """Definitions of crates of meanings over which no comment stands."""
+    """Public definitions, those of a mutual block among them, over which no comment stands."""
     head = re.compile(r"(?:abbrev |unfoldable )?pub (?!mod |use )(?:data |record )?(\S+)")
     for path in paths("specs/**/*.antt"):
-        if not crate_of(path).endswith("_mean"):
-            continue
-        lines = lines_of(path)
+        lines, in_block = lines_of(path), False
         for at, line in enumerate(lines):
-            if head.match(line) and not (at and lines[at - 1].strip().startswith("--")):
-                yield path, at + 1, head.match(line)[1]
+            if line and not line.startswith((" ", "--")):
+                in_block = line.split()[-1] == "mutual"
+            found = head.match(line) or (in_block and head.match(line.removeprefix("  ")))
+            if found and not (at and lines[at - 1].strip().startswith("--")):
+                yield path, at + 1, found[1]
+
+
+def is_of_meaning(path):
+    return crate_of(path).endswith("_mean")
 
 
 def shared_types():
@@ -228,6 +240,33 @@ def second_homes():
             yield f"{' and '.join(names)} are {number}"
 
 
+def edits():
+    """The must-fail edits of each crate: for each file its pairs of an old line and a new one, in the file that it names."""
+    for path in paths("must-fail/*.edit"):
+        words = [line.partition(": ")[::2] for line in lines_of(path) if line.strip()]
+        named = [text for word, text in words if word == "file"]
+        old = [text for word, text in words if word == "old"]
+        yield crate_of(path), path, named[0] if len(named) == 1 else None, old
+
+
+def bad_edits():
+    """Edits whose old lines don't stand once in their file, or that change no code; crates with many, and those where each costs too much."""
+    costs = dict(line.split("\t") for line in lines_of(os.path.join(TOP, "bench", "costs.tsv")) if "\t" in line)
+    many = collections.Counter(crate for crate, *_ in edits())
+    for crate, count in sorted(many.items()):
+        if count > MOST_EDITS:
+            yield f"{crate} has {count} edits"
+        if int(costs.get(crate, 0)) > COSTLY:
+            yield f"{crate} has an edit, and takes {costs[crate]} seconds"
+    for crate, path, named, old in edits():
+        file = os.path.join(TOP, "crates", crate, named or "")
+        text = "\n".join(lines_of(file)) if named and os.path.isfile(file) else ""
+        if not old or any(text.count(line) != 1 for line in old):
+            yield f"{short(path)} can't be applied"
+        elif not named.startswith("src/") and not crate.endswith("_laws"):  # (what a law of a layer tries is the layer)
+            yield f"{short(path)} changes no code"
+
+
 def main():
     files = [path for pattern in PROVED for path in paths(pattern)]
     named = "--names" in sys.argv[1:]
@@ -237,7 +276,9 @@ def main():
     wide = [(len(line), path, number + 1) for path in files for number, line in enumerate(lines_of(path)) if len(line) > COLUMNS]
     twice = standing_twice(files)
     crates, with_code, longest = chain()
-    bare, bare_specs, types, homes = list(bare_items()), list(bare_definitions()), shared_types(), list(second_homes())
+    bare, all_bare, types, homes = list(bare_items()), list(bare_definitions()), shared_types(), list(second_homes())
+    bare_specs, bare_words = [it for it in all_bare if is_of_meaning(it[0])], [it for it in all_bare if not is_of_meaning(it[0])]
+    tried, bad = len(list(edits())), list(bad_edits())
     words = len("\n".join(lines_of(os.path.join(TOP, "README.md"))).split())
     pages = sum(os.path.getsize(path) for path in glob.glob(os.path.join(TOP, "docs", "*.md")))
     rows = [
@@ -250,8 +291,10 @@ def main():
         (f"runs of {TWICE} lines or more that stand twice", len(twice)),
         ("items of the code without a comment", len(bare)),
         ("definitions of meanings without a comment", len(bare_specs)),
+        ("definitions of other crates without a comment", len(bare_words)),
         (f"names of public types in {MANY_CRATES} crates or more", len(types)),
         ("limits with a second home", len(homes)),
+        ("must-fail edits, and what is wrong with them", f"{tried}, {len(bad)}"),
         ("words of README.md", words),
         ("crates, and those with code", f"{crates}, {with_code}"),
         ("the longest chain of crates with code", len(longest)),
@@ -264,8 +307,10 @@ def main():
             "wide": [f"{w} columns: {short(p)}:{n}" for w, p, n in wide],
             "bare": [f"no comment: {short(p)}:{n} {name}" for p, n, name in bare],
             "bare definitions": [f"no comment: {short(p)}:{n} {name}" for p, n, name in bare_specs],
+            "bare words": [f"no comment: {short(p)}:{n} {name}" for p, n, name in bare_words],
             "types": [f"{name}: {' '.join(some)}" for name, some in types],
             "homes": homes,
+            "edits": bad,
             "words of README.md": ["README.md"] * words,
         }
         passed = [kind for kind, most in BOUNDS.items() if len(places[kind]) > most]
@@ -281,6 +326,7 @@ def main():
         print("\ntwice:", *(f"  {length} lines: {a}:{b} and {c}:{d}" for length, a, b, c, d in twice[:40]), sep="\n")
         print("\nno comment:", *(f"  {short(p)}:{n} {name}" for p, n, name in bare + bare_specs), sep="\n")
         print("\nsecond homes:", *(f"  {home}" for home in homes), sep="\n")
+        print("\nmust-fail edits:", *(f"  {it}" for it in bad), sep="\n")
         print("\nthe longest chain:", " ".join(longest))
     return 0
 

@@ -10,7 +10,7 @@ import textwrap
 
 from words import HERE, Table
 
-TABLES = {name: Table(name) for name in ("stackc", "layerfmt", "runchart", "stackhunt")}
+TABLES = {name: Table(name) for name in ("stackc", "layerfmt", "runchart", "stackhunt", "stackcheck")}
 SCRIPT_WORDS = [
     ("--help", "prints this"),
     ("--version", "prints the commit of the sources and the kit"),
@@ -24,12 +24,14 @@ FIRST = {
     "layerfmt": "Runs layerfmt: lays out a layer file.",
     "runchart": "Runs runchart: draws a report.",
     "stackhunt": "Runs stackhunt: looks for a script whose report breaks a law of the group.",
+    "stackcheck": "Runs stackcheck: tries all scripts of a family for a law of the group.",
 }
 NAMES = {
     "stackc": "checks, fuses, runs and audits stacks of protocol layers",
     "layerfmt": "lays out a file of protocol layers",
     "runchart": "draws the report of a run of protocol layers",
     "stackhunt": "looks for a run in which protocol layers break a law of their group",
+    "stackcheck": "tries all runs of a family in which protocol layers might break a law of their group",
 }
 
 
@@ -79,7 +81,7 @@ def endings(table, name):
     return form[1:] if form[0] == "file" else []
 
 
-BASH = r"""# Completions of stackc, layerfmt, runchart and stackhunt for bash, @FROM.
+BASH = r"""# Completions of stackc, layerfmt, runchart, stackhunt and stackcheck for bash, @FROM.
 # To have them: source tools/completions/stackc.bash
 
 _stackc_files() {
@@ -139,7 +141,7 @@ _stackc() {
   fi
 }
 
-complete -F _stackc stackc ./stackc layerfmt ./layerfmt runchart ./runchart stackhunt ./stackhunt
+complete -F _stackc stackc ./stackc layerfmt ./layerfmt runchart ./runchart stackhunt ./stackhunt stackcheck ./stackcheck
 """
 
 
@@ -187,8 +189,8 @@ def filled(text, fills):
     return text
 
 
-ZSH = r"""#compdef stackc layerfmt runchart stackhunt
-# Completions of stackc, layerfmt, runchart and stackhunt for zsh, @FROM.
+ZSH = r"""#compdef stackc layerfmt runchart stackhunt stackcheck
+# Completions of stackc, layerfmt, runchart, stackhunt and stackcheck for zsh, @FROM.
 # To have them: put this folder into fpath, before compinit.
 
 _stackc() {

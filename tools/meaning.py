@@ -154,7 +154,7 @@ def refused(table, said, words):
     text = bytes_of(places.get(name, ""))
     if text is None:
         return ""
-    find = {"FILE": causes.found, "SCRIPT": lines.script_found, "PLAN": lines.plan_found, "REPORT": lines.report_found}[name]
+    find = {"FILE": causes.found, "SCRIPT": lines.script_found, "ACTS": lines.script_found, "PLAN": lines.plan_found, "REPORT": lines.report_found}[name]
     found = find(text, cause)
     return told(places[name], text, found) if found else ""
 

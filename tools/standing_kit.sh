@@ -1,5 +1,5 @@
 # shellcheck shell=bash
-# Read by unproved.sh: a folder of links that stands for the kit. Before it is read, `kit` is the kit's folder and `away` the one
+# Read by unproved.sh and library.sh: a folder of links that stands for the kit. Before it is read, `kit` is the kit's folder and `away` the one
 # that is to stand for it.
 
 # Links each file of a folder of the kit into another one.

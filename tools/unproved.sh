@@ -4,6 +4,7 @@
 # `rt try` reads the sources and hands a module with its checks (bounds, overflows, unwraps) to the compiler of its kit. Here it is run
 # in a folder of links that stands for the kit, whose compiler makes of this module a program without the sanitizer, optimized; the trial itself
 # then ends. Where that doesn't work, the trial goes on, and what it links, with the sanitizer, is taken.
+# Half of the processor time is the trial's own reading, half the compiler's. At -O0 the compiler takes a third, and what it makes runs thirty times slower.
 set -eu
 top=$(dirname "$(dirname "$(readlink -f "$0")")")
 name=$1 folder=$(readlink -f "$2")
@@ -43,10 +44,12 @@ cp program "$folder/$name"
 END
 }
 
-# A trial without words: what it says of them is nothing to this.
+# A trial without words: what it says of them is nothing to this. Where it refuses the sources, nothing more is tried.
 try() {
+  local status=0
   mkdir -p "$folder/tmp"
-  (cd "$top/crates/$name" && TMPDIR="$folder/tmp" exec "$away/bin/rt" try --steps 1 --seconds 60) || true
+  (cd "$top/crates/$name" && TMPDIR="$folder/tmp" exec "$away/bin/rt" try --steps 1 --seconds 60) || status=$?
+  if [ "$status" -eq 1 ]; then exit 1; fi
 }
 
 # Whether the program is there, and refuses to be run without words.

@@ -6,8 +6,8 @@ HERE = os.path.dirname(os.path.abspath(__file__))
 
 
 # What is no job of stackc, and which program does it.
-OTHERS = {word: f"; `{program}` is a program of its own" for word, program in (("fmt", "layerfmt"), ("format", "layerfmt"), ("chart", "runchart"), ("draw", "runchart"), ("hunt", "stackhunt"))}
-OTHERS |= {program: "; it is a program of its own" for program in ("layerfmt", "runchart", "stackhunt")}
+OTHERS = {word: f"; `{program}` is a program of its own" for word, program in (("fmt", "layerfmt"), ("format", "layerfmt"), ("chart", "runchart"), ("draw", "runchart"), ("hunt", "stackhunt"), ("bound", "stackcheck"))}
+OTHERS |= {program: "; it is a program of its own" for program in ("layerfmt", "runchart", "stackhunt", "stackcheck")}
 
 
 class NoJob(Exception):
@@ -15,12 +15,12 @@ class NoJob(Exception):
 
 
 class Job:
-    """A job, or a program that has one alone: the words at its places, its options with the words for their values, those of them that it needs, those that it
-    doesn't take together, and those whose numbers don't fall."""
+    """A job, or a program that has one alone: the words at its places, its options with the words for their values, second values by the option before them,
+    the options that it needs, those that it doesn't take together, and those whose numbers don't fall."""
 
     def __init__(self, program, name, form, says):
         self.program, self.name, self.form, self.says = program, name, form, says
-        self.places, self.options, self.needed, self.apart, self.ascend = [], {}, [], [], []
+        self.places, self.options, self.seconds, self.needed, self.apart, self.ascend = [], {}, {}, [], [], []
         words = form.split()
         while words:
             word = words.pop(0)
@@ -28,7 +28,11 @@ class Job:
                 self.places.append(word)
                 continue
             option = word.strip("[]")
-            self.options[option] = None if word.endswith("]") else words.pop(0).rstrip("]")
+            self.options[option] = None if word.endswith("]") else words.pop(0)
+            if self.options[option] and not self.options[option].endswith("]") and word.startswith("["):
+                self.seconds[option] = words.pop(0).rstrip("]")
+            elif self.options[option]:
+                self.options[option] = self.options[option].rstrip("]")
             if not word.startswith("["):
                 self.needed.append(option)
 
@@ -92,15 +96,17 @@ class Table:
 
     def read(self, words):
         """The job of words with the words at its places and its options; raises NoJob where they are none."""
-        places, given = cut(words, self.options(self.named(words)))
+        own = self.named(words)
+        places, given = cut(words, self.options(own), own)
         job, places = self.job_of(places)
         for option in given:
             if option not in job.options:
                 raise NoJob(f"`{job.name}` has no `{option}`")
-        if len(places) > len(job.places):
-            raise NoJob(f"`{places[len(job.places)]}` is a word too many")
-        if len(places) < len(job.places):
-            name = job.places[len(places)]
+        names = job.places + [second for option, second in job.seconds.items() if option in given]
+        if len(places) > len(names):
+            raise NoJob(f"`{places[len(names)]}` is a word too many")
+        if len(places) < len(names):
+            name = names[len(places)]
             raise NoJob(f"{name} is missing: {self.words[name][1]}")
         for option in job.needed:
             if option not in given:
@@ -108,6 +114,8 @@ class Table:
         for option, value in given.items():
             if job.options[option]:
                 fits(option, value, self.words[job.options[option]][0])
+        for name, value in zip(names[len(job.places):], places[len(job.places):]):
+            fits(name, value, self.words[name][0])
         for option, other, says in job.apart:
             name, _, value = other.partition("=")
             if option in given and given.get(name) == value:
@@ -115,7 +123,7 @@ class Table:
         for low, high, says in job.ascend:
             if low in given and high in given and int(given[low]) > int(given[high]):
                 raise NoJob(f"`{low} {given[low]}` is over `{high} {given[high]}`: {says}")
-        return job, dict(zip(job.places, places)), given
+        return job, dict(zip(names, places)), given
 
     def fault(self, words):
         """Why words are no job; None where they are one."""
@@ -132,8 +140,8 @@ def nearest(word, known):
     return f"; is `{found[0]}` meant?" if found else ""
 
 
-def cut(words, options):
-    """The words at their places, and the options with their values."""
+def cut(words, options, own=None):
+    """The words at their places, and the options with their values; of the job that is named, only its own."""
     places, given, left = [], {}, list(words)
     while left:
         word = left.pop(0)
@@ -149,6 +157,8 @@ def cut(words, options):
             raise NoJob(f"`{option}` stands before the job")
         if option not in options:
             raise NoJob(f"there is no option `{option}`" + nearest(option, options))
+        if own and own.name and option not in own.options:
+            raise NoJob(f"`{own.name}` has no `{option}`")
         if option in given:
             raise NoJob(f"`{option}` is given twice")
         given[option] = value_of(option, value if sign else None, options[option], left)
@@ -183,7 +193,7 @@ def is_plain(word, low, high):
 
 def fits(option, value, form):
     """Raises NoJob where a value doesn't have the form of its word."""
-    if form[0] == "file":
+    if form[0] in ("file", "text"):
         return
     if form[0] == "one":
         if value not in form[1:]:

@@ -1,4 +1,4 @@
-# Completions of stackc, layerfmt, runchart and stackhunt for bash, made by tools/make.py from tools/jobs.tsv and tools/programs.tsv.
+# Completions of stackc, layerfmt, runchart, stackhunt and stackcheck for bash, made by tools/make.py from tools/jobs.tsv and tools/programs.tsv.
 # To have them: source tools/completions/stackc.bash
 
 _stackc_files() {
@@ -30,14 +30,15 @@ _stackc() {
   'stackc check') options="" valued="" kinds="layers" ;;
   'stackc synth') options="" valued="" kinds="layers" ;;
   'stackc pack') options="" valued="" kinds="layers" ;;
-  'stackc replay') options="--run --with --wire --count" valued="--run --with" kinds="layers script" ;;
+  'stackc replay') options="--run --with --events --wire --count" valued="--run --with" kinds="layers script" ;;
   'stackc explain') options="" valued="" kinds="layers script" ;;
   'stackc load') options="--seed --events --members --run --raw" valued="--seed --events --members --run" kinds="layers" ;;
   'stackc node') options="--turns --me --run --patience" valued="--turns --me --run --patience" kinds="layers plan" ;;
   'stackc audit') options="--law" valued="--law" kinds="report,journal" ;;
   'layerfmt') options="" valued="" kinds="layers" ;;
-  'runchart') options="--from --to" valued="--from --to" kinds="report,journal" ;;
-  'stackhunt') options="--law --members --events --runs --seed --seconds" valued="--law --members --events --runs --seed --seconds" kinds="layers" ;;
+  'runchart') options="--from --to --breach --hide" valued="--from --to --breach --hide" kinds="report,journal" ;;
+  'stackhunt') options="--law --members --events --runs --seed --seconds --style" valued="--law --members --events --runs --seed --seconds --style" kinds="layers" ;;
+  'stackcheck') options="--law --events --repeats --seconds" valued="--law --events --repeats --seconds" kinds="layers script,acts" ;;
   *) return ;;
   esac
   if [[ " $valued " == *" $before "* ]]; then
@@ -48,6 +49,8 @@ _stackc() {
     'stackc node--run') mapfile -t COMPREPLY < <(compgen -W "bypass layered" -- "$current") ;;
     'stackc audit--law') mapfile -t COMPREPLY < <(compgen -W "sender total same" -- "$current") ;;
     'stackhunt--law') mapfile -t COMPREPLY < <(compgen -W "sender total same" -- "$current") ;;
+    'stackhunt--style') mapfile -t COMPREPLY < <(compgen -W "mixed flood crash part" -- "$current") ;;
+    'stackcheck--law') mapfile -t COMPREPLY < <(compgen -W "sender total same" -- "$current") ;;
     esac
     return
   fi
@@ -73,4 +76,4 @@ _stackc() {
   fi
 }
 
-complete -F _stackc stackc ./stackc layerfmt ./layerfmt runchart ./runchart stackhunt ./stackhunt
+complete -F _stackc stackc ./stackc layerfmt ./layerfmt runchart ./runchart stackhunt ./stackhunt stackcheck ./stackcheck

@@ -1,5 +1,5 @@
 #!/usr/bin/env python3
-"""Says whether crates/README.md is what tools/crates.py makes of the crates: prints what differs, and ends with 1 where it is stale."""
+"""Says whether crates/README.md is what tools/crates.py makes of the crates, and whether pages name crates, files and modules that are there."""
 import os
 import subprocess
 import sys
@@ -9,7 +9,7 @@ MAKER = os.path.join(os.path.dirname(os.path.abspath(__file__)), "..", "crates.p
 
 def main():
     stale = subprocess.run([sys.executable, MAKER, "--check"]).returncode
-    print("crates: the index is stale: run tools/crates.py" if stale else "crates: the index is what the crates say")
+    print("crates: a page is stale: run tools/crates.py, or mend what it names" if stale else "crates: the index is what the crates say, and pages name what is there")
     return stale
 
 

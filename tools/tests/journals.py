@@ -4,6 +4,7 @@
 The script replays to what both wrote but for the numbers of packets, `lost` and `deaf`; both laws hold of the report, and each delivers the other's cast.
 """
 import os
+import random
 import re
 import socket
 import subprocess
@@ -23,14 +24,24 @@ def wants(what, is_so):
         print(f"not so: {what}")
 
 
+def is_free(port):
+    """Whether nothing listens on a port, over UDP and TCP."""
+    with socket.socket(socket.AF_INET, socket.SOCK_DGRAM) as datagrams, socket.socket(socket.AF_INET, socket.SOCK_STREAM) as streams:
+        try:
+            datagrams.bind(("127.0.0.1", port))
+            streams.bind(("127.0.0.1", port))
+        except OSError:
+            return False
+    return True
+
+
 def free_ports(count):
-    """Ports on which nothing listens."""
-    sockets = [socket.socket(socket.AF_INET, socket.SOCK_DGRAM) for _ in range(count)]
-    for one in sockets:
-        one.bind(("127.0.0.1", 0))
-    ports = [one.getsockname()[1] for one in sockets]
-    for one in sockets:
-        one.close()
+    """Ports on which nothing listens, lower than those that the system gives to sockets that ask for none."""
+    ports = []
+    while len(ports) < count:
+        port = random.randrange(20_000, 32_000)
+        if port not in ports and is_free(port):
+            ports.append(port)
     return ports
 
 

@@ -13,7 +13,7 @@ sys.path[:0] = [os.path.join(TOP, "tools"), os.path.join(TOP, "diff")]
 from meaning import ROWS  # noqa: E402
 
 FAILED = []
-PROGRAMS = ("stackc", "layerfmt", "runchart", "stackhunt")
+PROGRAMS = ("stackc", "layerfmt", "runchart", "stackhunt", "stackcheck")
 KIT = """#!/usr/bin/env bash
 # In the kit's place: `version` is answered, and all else runs until it is ended.
 [ "$1" != version ] || { echo "kit of this test"; exit 0; }
@@ -31,14 +31,18 @@ REFUSED = [
     ("runchart", ["a.report", "--law=total"], "there is no option `--law`"),
     ("stackhunt", ["a.layers", "--law", "fifo"], "`--members N` is missing: how many members a group has"),
     ("stackhunt", "a.layers --law total --members 33 --events 1 --runs 1 --seed 1".split(), "`--members` is a number from 1 to 32 in plain digits, and not `33`"),
+    ("stackcheck", ["a.layers", "--law", "total"], "ACTS is missing: a script with the acts of the members"),
+    ("stackcheck", ["a.layers", "an.acts", "--law", "total"], "`--events E` is missing: how many events a script has at most"),
 ]
 HUNT = "--law total --members 3 --events 9 --runs 1 --seed 1".split()
+BOUND = "--law total --events 4".split()
 EXPLAINED = [
     ("layerfmt", ["a.file"], "file: token 2:3", 1, "layer a {\n  ? }\n", ["a.file:2:3: `?` is no sign of the language", "  ? }", "  ^"]),
     ("runchart", ["a.file", "--to", "9"], "file: line 2", 1, "out 0\nout x\nend 1\n", ["a.file:2:5: a number is wanted here: `out M`", "out x", "    ^"]),
     ("stackhunt", ["a.file", *HUNT], "file: unknown 1:9", 1, "stack { no; }\n", ["a.file:1:9: there is no layer `no` in this file or in the library", "stack { no; }", "        ^"]),
     ("stackhunt", ["a.file", *HUNT], "script: rows", 3, "", ["a.file: " + ROWS]),
     ("stackhunt", ["none", *HUNT], "read fault", 4, "", ["none: No such file or directory"]),
+    ("stackcheck", ["a.file", "an.acts", *BOUND], "file: unknown 1:9", 1, "stack { no; }\n", ["a.file:1:9: there is no layer `no` in this file or in the library", "stack { no; }", "        ^"]),
 ]
 TELLS = """#!/usr/bin/env bash
 # In a program's place: tells at a terminal how far it is, and then its line.
@@ -190,19 +194,23 @@ def completions():
     completes(["stackc", "re"], "replay")
     completes(["stackc", "--trial", "ch"], "check")
     completes(["stackc", "--v"], "--version")
-    completes(["stackc", "replay", "c"], "counter.layers")
+    completes(["stackc", "replay", "c"], "chat.layers", "counter.layers")
     completes(["stackc", "replay", "order.layers", "o"], "order.script")
     completes(["stackc", "node", "--turns", "9", "counter.layers", "p"], "pair.plan")
-    completes(["stackc", "replay", "order.layers", "order.script", "--"], "--run", "--with", "--wire", "--count")
+    completes(["stackc", "replay", "order.layers", "order.script", "--"], "--run", "--with", "--events", "--wire", "--count")
+    completes(["stackc", "replay", "order.layers", "--events", "o"], "order.script")
     completes(["stackc", "load", "order.layers", "--run", "=", "l"], "layered")
     completes(["stackc", "audit", "--law", "t"], "total")
     completes(["stackc", "check", "order.layers", ""])
-    completes(["./layerfmt", "c"], "counter.layers")
+    completes(["./layerfmt", "c"], "chat.layers", "counter.layers")
     completes(["layerfmt", "--v"], "--version")
-    completes(["runchart", "order.report", "--"], "--from", "--to")
+    completes(["runchart", "order.report", "--"], "--from", "--to", "--breach", "--hide")
     completes(["stackhunt", "counter.layers", "--law", "s"], "sender", "same")
     completes(["stackhunt", "--law", "=", "to"], "total")
     completes(["stackhunt", "--members", "3", "or"], "order.layers")
+    completes(["stackcheck", "order.layers", "o"], "order.script")
+    completes(["stackcheck", "--law", "s"], "sender", "same")
+    completes(["stackhunt", "counter.layers", "--style", "f"], "flood")
 
 
 def main():

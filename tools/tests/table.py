@@ -1,5 +1,5 @@
 #!/usr/bin/env python3
-"""Compares the tables of words with the program in $STACKC, and with those in $RUNCHART and $STACKHUNT, if these are set: words that a table allows aren't
+"""Compares the tables of words with the program in $STACKC, and with those in $RUNCHART, $STACKHUNT and $STACKCHECK, if these are set: words that a table allows aren't
 refused with 2, and words that it doesn't are.
 
 No file that the words name is there, so a job that is seen in them ends with 4.
@@ -17,6 +17,7 @@ VALUES = {
     "members": lambda form, r: r.choice(["0", "31", "32", "0,1", "1,0", "1,1", "0,", "", "0,31", "00", "0, 1", "0,2,5"]),
     "file": lambda form, r: r.choice(["t.bypasses", "", "x", "layered"]),
     "one": lambda form, r: r.choice(form[1:] + [form[1].upper(), "", "x"]),
+    "text": lambda form, r: r.choice(["bottom", "", "x", "no layer"]),
 }
 
 
@@ -30,7 +31,7 @@ def option_words(table, option, value, r):
 
 
 def good(form, r):
-    return {"number": lambda: form[1 + r.randrange(2)], "members": lambda: "0,31", "file": lambda: "t.bypasses", "one": lambda: r.choice(form[1:])}[form[0]]()
+    return {"number": lambda: form[1 + r.randrange(2)], "members": lambda: "0,31", "file": lambda: "t.bypasses", "one": lambda: r.choice(form[1:]), "text": lambda: "bottom"}[form[0]]()
 
 
 def drawn(table, r):
@@ -67,7 +68,7 @@ def compared(name, path, count):
 
 def main():
     count, wrong = int(sys.argv[1]) if len(sys.argv) > 1 else 1200, 0
-    for name in ("stackc", "runchart", "stackhunt"):
+    for name in ("stackc", "runchart", "stackhunt", "stackcheck"):
         path = os.environ.get(name.upper())
         if path:
             many = count if name == "stackc" else count // 4

@@ -13,7 +13,7 @@ from journals import free_ports
 from tree import TOP
 
 PAGES = [os.path.join(TOP, "docs", name) for name in ("TUTORIAL.md", "PROTOCOLS.md")]
-HUNTS = os.environ.get("STACKHUNT", "")
+BESIDE = {name: os.environ.get(name.upper(), "") for name in ("stackhunt", "stackcheck")}
 HUNTED = re.compile(r"hasty|patient")    # files that a hunt writes, or is made over
 FENCE = re.compile(r"^```([a-z]*)(?: (\S+))?\n(.*?)^```$", re.M | re.S)
 
@@ -42,6 +42,11 @@ def with_free_ports(text):
     return text
 
 
+def can_run(command):
+    """Whether the programs that a command needs are there."""
+    return (BESIDE["stackhunt"] or not HUNTED.search(command)) and (BESIDE["stackcheck"] or "stackcheck" not in command)
+
+
 def try_page(path):
     """Runs a page, and answers whether all is so."""
     with open(path, encoding="utf-8") as file:
@@ -49,8 +54,9 @@ def try_page(path):
     files, tried, wrong, filled, at = 0, 0, 0, [], 0
     with tempfile.TemporaryDirectory(prefix="stackc-") as folder:
         os.symlink(os.environ["STACKC"], os.path.join(folder, "stackc"))
-        if HUNTS:
-            os.symlink(HUNTS, os.path.join(folder, "stackhunt"))
+        for name, program in BESIDE.items():
+            if program:
+                os.symlink(program, os.path.join(folder, name))
         for fence in FENCE.finditer(page):
             language, name, body = fence.groups()
             filled.append(page[at:fence.start()])
@@ -63,7 +69,7 @@ def try_page(path):
                 continue
             lines = []
             for command, wanted in commands(body):
-                if not HUNTS and HUNTED.search(command):
+                if not can_run(command):
                     lines += [f"$ {command}", *wanted]
                     continue
                 got = run(command, folder)
