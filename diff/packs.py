@@ -23,9 +23,10 @@ import synth
 from fusing import BODY, MEMBERS, NOTHING, PEER, Bind, Check, Event, Message, Note, Out, Push, Set, Take, Term, over
 
 MOST_BRACKETS = 200
-MOST_NUMBERS = 4
 LONGEST_FILE = 33_554_432
 KINDS = set(reading.KINDS)
+CARRIERS = {"Cast", "Send"}
+NUMBERS = {"Stable": 2, "Ack": 2}
 FUNCTIONS = {"not", "bit", "count", "lowest"}
 NAME = re.compile(r"[A-Za-z0-9_.]*")
 PLAIN = re.compile(r"0|[1-9][0-9]*")
@@ -284,23 +285,16 @@ class Line:
             raise OutOfForm
         return core
 
-    def sent(self):
-        """Numbers, and a message at the end, which has to be there after as many numbers as there may be."""
-        numbers = []
-        if self.next() == ")":
-            return numbers, None
-        while True:
-            words = self.name()
-            atom = self.scope.atom(words) if len(numbers) < MOST_NUMBERS else None
-            if atom is None:
-                core = self.scope.core(words)
-                if core is None:
-                    raise OutOfForm
-                return numbers, core
-            numbers.append(atom)
-            if self.next() != ",":
-                return numbers, None
+    def sent(self, kind):
+        """The numbers of a kind's events, and the message where they have one."""
+        numbers = [self.the_atom()]
+        for _ in range(NUMBERS.get(kind, 1) - 1):
             self.the(",")
+            numbers.append(self.the_atom())
+        if kind not in CARRIERS:
+            return numbers, None
+        self.the(",")
+        return numbers, self.the_core()
 
     # Operations.
 
@@ -340,7 +334,7 @@ class Line:
         for k, _ in enumerate(labels):
             if k:
                 self.the(",")
-            numbers.append(self.number(MOST_BRACKETS))
+            numbers.append(self.number(deeper(MOST_BRACKETS)))
         if carries:
             if labels:
                 self.the(",")
@@ -363,9 +357,9 @@ class Line:
         if len(kind) != 1 or kind[0] not in KINDS:
             raise OutOfForm
         self.the("(")
-        numbers, core = self.sent()
+        numbers, core = self.sent(kind[0])
         self.the(")")
-        message = None if core is None else Message(True, self.chain(0), core)
+        message = None if core is None else Message(True, self.chain(0) if direction == "down" else (), core)
         return Out(direction, Event(kind[0], tuple(numbers), message))
 
 

@@ -3,8 +3,8 @@
 
 Run it from any folder: diff/replay.py [FILES] [COUNT] [SEED] [WORD..]. FILES is `library`, for random stacks of the library's layers,
 `random`, for random layer files that are accepted, made as those of diff/check.py, or `counter`, for the counter layer. Of each file a random
-script is replayed in both modes, with `--wire` and `--count` now and then, or with exactly the further words; and the lines of a generated
-script are counted in both. What is written, what is said and the status must be those of the reading. It prints each difference.
+script is replayed in both modes, with `--events`, `--wire` and `--count` now and then, or with exactly the further words; and the lines of a
+generated script are counted in both. What is written, what is said and the status must be those of the reading. It prints each difference.
 """
 import os
 import random
@@ -49,13 +49,6 @@ def file_of(r, files):
     return ("stack { " + "".join(f"{word}; " for word in names) + "}\n").encode()
 
 
-def line_of(event):
-    what, member, *rest = event
-    if what == "give":
-        return f"give {rest[0]} {member}"
-    return " ".join([what, str(member)] + [running.hexed(v) if isinstance(v, bytes) else str(v) for v in rest])
-
-
 def script_of(r):
     members = r.randint(1, 6)
     events = running.generate(r.randrange(2**32), r.randint(0, 60), members, r.random() < 0.5)
@@ -63,7 +56,7 @@ def script_of(r):
         events.insert(r.randint(0, len(events)), ("leave", r.randrange(members)))
     for _ in range(r.randint(0, 5)):
         events.insert(r.randint(0, len(events)), ("state", r.randrange(members)))
-    lines = ["group 1 stamp 1 members %d" % members] + [line_of(e) for e in events]
+    lines = ["group 1 stamp 1 members %d" % members] + [running.line_of(e) for e in events]
     if r.random() < 0.1:
         lines.insert(r.randint(0, len(lines)), r.choice(("", "# a note", "cast 0 6", "cast 40 61", "give 1", "state 00", " ")))
     return ("\n".join(lines) + r.choice(("\n", ""))).encode()
@@ -76,9 +69,9 @@ def answer(words):
 
 def replays(r, paths, texts, given):
     """In each mode the words of a replay, and what the reading says of it."""
-    words = given or [word for word in ("--wire", "--count") if r.random() < 0.4]
+    words = given or [word for word in ("--events", "--wire", "--count") if r.random() < 0.4]
     for mode in MODES:
-        wanted = running.replay(*texts, mode, "--wire" in words, "--count" in words)
+        wanted = running.replay(*texts, mode, "--wire" in words, "--count" in words, "--events" in words)
         yield ["replay", *paths, "--run", mode, *words], wanted
 
 

@@ -118,20 +118,24 @@ module _ (job : Job) (script : Text) (a : Around)
   stops_there between stack _ f s same = absurd s
 
 -- So it is of a replay, by the stack's own bypasses and by those of a file, and of an explanation.
-pub stops : (name script : Text) (mode : Mode) (wire count : Bool) (a : Around) (between : ℕ) (stack : List LayerTree)
+pub stops : (name script : Text) (mode : Mode) (events wire count : Bool) (a : Around) (between : ℕ)
+    (stack : List LayerTree)
     (end : Ended) →
     IsStack name a.told a.reads between stack →
     StopsAt script_of script (option_map after_read a.told) between a.reads_after end →
-    a.output_after ≡ a.output → Comes (replay name script mode wire count) a end
-stops name script mode wire count a = stops_there (replay name script mode wire count) script a (λ found is. is)
+    a.output_after ≡ a.output → Comes (replay name script mode events wire count) a end
+stops name script mode events wire count a = stops_there (replay name script mode events wire count) script a
+    (λ found is. is)
     (λ stack text. refl)
 
-pub with_stops : (name script given : Text) (wire count : Bool) (a : Around) (between : ℕ) (stack : List LayerTree)
+pub with_stops : (name script given : Text) (events wire count : Bool) (a : Around) (between : ℕ)
+    (stack : List LayerTree)
     (end : Ended) →
     IsStack name a.told a.reads between stack →
     StopsAt script_of script (option_map after_read a.told) between a.reads_after end →
-    a.output_after ≡ a.output → Comes (replay_with name script given wire count) a end
-with_stops name script given wire count a = stops_there (replay_with name script given wire count) script a
+    a.output_after ≡ a.output → Comes (replay_with name script given events wire count) a end
+with_stops name script given events wire count a = stops_there (replay_with name script given events wire count) script
+    a
     (λ found is. is) (λ stack text. refl)
 
 pub explain_stops : (name script : Text) (a : Around) (between : ℕ) (stack : List LayerTree) (end : Ended) →

@@ -1,3 +1,4 @@
 pub mod Node
 pub mod Room
 pub mod Shown
+pub mod Told

@@ -11,5 +11,6 @@ mod run;
 
 pub use examining::open_examined;
 pub use opening::{open, open_with};
+pub use preparing::prepare;
 pub use room::has_room;
-pub use run::{Examination, Opened};
+pub use run::{Examination, Opened, Parts};

@@ -67,7 +67,7 @@ fn parts_of(alloc: Global, drawn: Drawn, codes: Option<Rc<Codes>>) -> Result<Par
 }
 
 /// What a run over a stack in a mode is made of.
-pub(crate) fn prepare(alloc: Global, mode: Mode, stack: Stack) -> Result<Parts, Memory>
+pub fn prepare(alloc: Global, mode: Mode, stack: Stack) -> Result<Parts, Memory>
     requires { CanRun (shown_mode mode) (stack_tree stack) }
     ensures { IfOk result (IsPrepared (shown_mode mode) (stack_tree stack)) }
 {

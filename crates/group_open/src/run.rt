@@ -16,9 +16,9 @@ pub(crate) struct Drawn {
     pub shapes: StackShapes,
 }
 
-/// What a run over a stack is made of.
+/// What a run over a stack is made of: what `prepare` makes, and a member or a group is opened of.
 #[derive(Drop)]
-pub(crate) struct Parts {
+pub struct Parts {
     pub maker: Maker,
     pub stack: NamedStack,
     pub plans: Rc<Plans>,

@@ -95,6 +95,7 @@ fn report_of(alloc: Global, file: &[u8], script: &Script) -> Result<Option<Vec<u
     let mut sink = StillSink::of(alloc);
     let wanted = Wanted {
         script,
+        events: false,
         wire: false,
         count: false,
     };

@@ -18,7 +18,7 @@ use Rattle.audit_mean.specs.Finding.{AuditFault}
 use Rattle.audit_mean.specs.declared.law.Finding.{Finding}
 use Rattle.stack_mean.specs.Plans.{plans_of}
 use Rattle.run_mean.specs.Mode.{bypass}
-use Rattle.run_mean.specs.Report.{output_in}
+use Rattle.group_mean.specs.Told.{replay_lines}
 use Rattle.run_mean.specs.Tally.{tally, accepted_lines}
 use Rattle.output_mean.specs.Output.{finding_line}
 use Rattle.miss_mean.specs.Text.{explained_lines}
@@ -79,7 +79,7 @@ writes_of (synth name) r file second third lines o none is =
     (record { stack = o.stack; means = o.means; written = ap concat (printed printed_lines file lines o) }, none)
 writes_of (pack name) r file second third lines o none is =
     (record { stack = o.stack; means = o.means; written = ap concat (printed packed_file file lines o) }, none)
-writes_of (replay name script mode wire count) r file second third lines o none is = (
+writes_of (replay name script mode events wire count) r file second third lines o none is = (
   record {
     stack = o.stack;
     means = o.means;
@@ -90,7 +90,7 @@ writes_of (replay name script mode wire count) r file second third lines o none 
   },
   none,
 )
-writes_of (replay_with name script given wire count) r file second third lines o none is = (
+writes_of (replay_with name script given events wire count) r file second third lines o none is = (
   record {
     stack = o.stack;
     means = o.means;
@@ -140,16 +140,16 @@ output_once (check name) file second third one other x y =
     x.written ∙ ap accepted_lines (one_meaning file x.stack y.stack x.means y.means) ∙ sym y.written
 output_once (synth name) file second third one other x y = printed_once printed_lines file one other x y
 output_once (pack name) file second third one other x y = printed_once packed_file file one other x y
-output_once (replay name script mode wire count) file second third one other x y =
+output_once (replay name script mode events wire count) file second third one other x y =
     let stack = one_meaning file x.stack y.stack x.means y.means in
     let both : ◌≡◌ {A = Result Script ScriptFault} (Ok x.script) (Ok y.script) = sym x.spelled ∙ y.spelled in
     let same : x.script ≡ y.script = cc (both) in
-    x.written ∙ (λ k. output_in (stack k) (plans_of (stack k)) (same k) mode wire count) ∙ sym y.written
-output_once (replay_with name script given wire count) file second third one other x y =
+    x.written ∙ (λ k. replay_lines (stack k) (plans_of (stack k)) (same k) mode events wire count) ∙ sym y.written
+output_once (replay_with name script given events wire count) file second third one other x y =
     let stack = one_meaning file x.stack y.stack x.means y.means in
     let both : ◌≡◌ {A = Result Script ScriptFault} (Ok x.script) (Ok y.script) = sym x.spelled ∙ y.spelled in
     let same : x.script ≡ y.script = cc (both) in
-    x.written ∙ (λ k. output_in (stack k) (plans_of (stack k)) (same k) bypass wire count) ∙ sym y.written
+    x.written ∙ (λ k. replay_lines (stack k) (plans_of (stack k)) (same k) bypass events wire count) ∙ sym y.written
 output_once (explain name script) file second third one other x y =
     let stack = one_meaning file x.stack y.stack x.means y.means in
     let tree = one_file file x.means.file y.means.file x.means.is_file y.means.is_file in
@@ -176,8 +176,8 @@ pub beside_once : (job : Job) (shelf : Shelved) (one other : Option (List ℕ)) 
 beside_once (check name) shelf one other x y = x ∙ sym y
 beside_once (synth name) shelf one other x y = x ∙ sym y
 beside_once (pack name) shelf one other x y = x ∙ sym y
-beside_once (replay name script mode wire count) shelf one other x y = sym x ∙ y
-beside_once (replay_with name script given wire count) shelf one other x y = sym x ∙ y
+beside_once (replay name script mode events wire count) shelf one other x y = sym x ∙ y
+beside_once (replay_with name script given events wire count) shelf one other x y = sym x ∙ y
 beside_once (explain name script) shelf one other x y = sym x ∙ y
 beside_once (load name seed events members raw mode) shelf one other x y = x ∙ sym y
 beside_once (node name plan turns me patience mode) shelf one other x y = sym x ∙ y
@@ -189,8 +189,8 @@ pub second_read : (job : Job) (told : Option Shelved) (text : List ℕ) → Besi
 second_read (check name) told text is = (None, sym is)
 second_read (synth name) told text is = (None, sym is)
 second_read (pack name) told text is = (None, sym is)
-second_read (replay name script mode wire count) told text is = (Some text, refl)
-second_read (replay_with name script given wire count) told text is = (Some text, refl)
+second_read (replay name script mode events wire count) told text is = (Some text, refl)
+second_read (replay_with name script given events wire count) told text is = (Some text, refl)
 second_read (explain name script) told text is = (Some text, refl)
 second_read (load name seed events members raw mode) told text is = (None, sym is)
 second_read (node name plan turns me patience mode) told text is = (Some text, refl)
@@ -201,8 +201,8 @@ pub second_missed : (job : Job) (told : Option Shelved) → Beside job told None
 second_missed (check name) told is = absurd (cc is)
 second_missed (synth name) told is = absurd (cc is)
 second_missed (pack name) told is = absurd (cc is)
-second_missed (replay name script mode wire count) told is = refl
-second_missed (replay_with name script given wire count) told is = refl
+second_missed (replay name script mode events wire count) told is = refl
+second_missed (replay_with name script given events wire count) told is = refl
 second_missed (explain name script) told is = refl
 second_missed (load name seed events members raw mode) told is = absurd (cc is)
 second_missed (node name plan turns me patience mode) told is = refl
@@ -223,8 +223,8 @@ pub next_second : (job : Job) (told : Option Shelved) → (second : Option (List
 next_second (check name) told = (None, refl)
 next_second (synth name) told = (None, refl)
 next_second (pack name) told = (None, refl)
-next_second (replay name script mode wire count) told = found_at (option_map after_read told) script
-next_second (replay_with name script given wire count) told = found_at (option_map after_read told) script
+next_second (replay name script mode events wire count) told = found_at (option_map after_read told) script
+next_second (replay_with name script given events wire count) told = found_at (option_map after_read told) script
 next_second (explain name script) told = found_at (option_map after_read told) script
 next_second (load name seed events members raw mode) told = (None, refl)
 next_second (node name plan turns me patience mode) told = found_at (option_map after_read told) plan
@@ -234,11 +234,11 @@ next_second (audit name law) told = (None, refl)
 pub after_once : (job : Job) (shelf : Shelved) (one other : Option (List ℕ)) → After job (Some shelf) one →
     After job (Some shelf) other →
     one ≡ other
-after_once (replay_with name script given wire count) shelf one other x y = sym x ∙ y
+after_once (replay_with name script given events wire count) shelf one other x y = sym x ∙ y
 after_once (check name) shelf one other x y = x ∙ sym y
 after_once (synth name) shelf one other x y = x ∙ sym y
 after_once (pack name) shelf one other x y = x ∙ sym y
-after_once (replay name script mode wire count) shelf one other x y = x ∙ sym y
+after_once (replay name script mode events wire count) shelf one other x y = x ∙ sym y
 after_once (explain name script) shelf one other x y = x ∙ sym y
 after_once (load name seed events members raw mode) shelf one other x y = x ∙ sym y
 after_once (node name plan turns me patience mode) shelf one other x y = x ∙ sym y
@@ -246,34 +246,34 @@ after_once (audit name law) shelf one other x y = x ∙ sym y
 
 pub third_read : (job : Job) (told : Option Shelved) (text : List ℕ) → After job told (Some text) →
     (third : Option (List ℕ)) × (third_for job third ≡ Some text)
-third_read (replay_with name script given wire count) told text is = (Some text, refl)
+third_read (replay_with name script given events wire count) told text is = (Some text, refl)
 third_read (check name) told text is = (None, sym is)
 third_read (synth name) told text is = (None, sym is)
 third_read (pack name) told text is = (None, sym is)
-third_read (replay name script mode wire count) told text is = (None, sym is)
+third_read (replay name script mode events wire count) told text is = (None, sym is)
 third_read (explain name script) told text is = (None, sym is)
 third_read (load name seed events members raw mode) told text is = (None, sym is)
 third_read (node name plan turns me patience mode) told text is = (None, sym is)
 third_read (audit name law) told text is = (None, sym is)
 
 pub third_missed : (job : Job) (told : Option Shelved) → After job told None → third_for job None ≡ None
-third_missed (replay_with name script given wire count) told is = refl
+third_missed (replay_with name script given events wire count) told is = refl
 third_missed (check name) told is = absurd (cc is)
 third_missed (synth name) told is = absurd (cc is)
 third_missed (pack name) told is = absurd (cc is)
-third_missed (replay name script mode wire count) told is = absurd (cc is)
+third_missed (replay name script mode events wire count) told is = absurd (cc is)
 third_missed (explain name script) told is = absurd (cc is)
 third_missed (load name seed events members raw mode) told is = absurd (cc is)
 third_missed (node name plan turns me patience mode) told is = absurd (cc is)
 third_missed (audit name law) told is = absurd (cc is)
 
 pub next_third : (job : Job) (told : Option Shelved) → (third : Option (List ℕ)) × After job told (third_for job third)
-next_third (replay_with name script given wire count) told =
+next_third (replay_with name script given events wire count) told =
     found_at (option_map after_read (option_map after_read told)) given
 next_third (check name) told = (None, refl)
 next_third (synth name) told = (None, refl)
 next_third (pack name) told = (None, refl)
-next_third (replay name script mode wire count) told = (None, refl)
+next_third (replay name script mode events wire count) told = (None, refl)
 next_third (explain name script) told = (None, refl)
 next_third (load name seed events members raw mode) told = (None, refl)
 next_third (node name plan turns me patience mode) told = (None, refl)
@@ -282,11 +282,11 @@ next_third (audit name law) told = (None, refl)
 -- A job with a file of traces has it as its third.
 pub third_is : (job : Job) (third : Option (List ℕ)) (text : List ℕ) → ReadsTraces job →
     third_for job third ≡ Some text → third ≡ Some text
-third_is (replay_with name script given wire count) third text reads is = is
+third_is (replay_with name script given events wire count) third text reads is = is
 third_is (check name) third text reads is = absurd reads
 third_is (synth name) third text reads is = absurd reads
 third_is (pack name) third text reads is = absurd reads
-third_is (replay name script mode wire count) third text reads is = absurd reads
+third_is (replay name script mode events wire count) third text reads is = absurd reads
 third_is (explain name script) third text reads is = absurd reads
 third_is (load name seed events members raw mode) third text reads is = absurd reads
 third_is (node name plan turns me patience mode) third text reads is = absurd reads

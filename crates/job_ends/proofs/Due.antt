@@ -76,8 +76,8 @@ whole_number : (job : Job) (file : List ℕ) → IsWhole (status_number (whole_e
 whole_number (check name) file = inl refl
 whole_number (synth name) file = inl refl
 whole_number (pack name) file = inl refl
-whole_number (replay name script mode wire count) file = inl refl
-whole_number (replay_with name script given wire count) file = inl refl
+whole_number (replay name script mode events wire count) file = inl refl
+whole_number (replay_with name script given events wire count) file = inl refl
 whole_number (explain name script) file = inl refl
 whole_number (load name seed events members raw mode) file = inl refl
 whole_number (node name plan turns me patience mode) file = inl refl
@@ -135,8 +135,8 @@ module _ (words : List Text) (job : Job) (a : Around) (e : Errors) (is : job_of_
       go (check name) named refused = absurd refused
       go (synth name) named refused = absurd refused
       go (pack name) named refused = absurd refused
-      go (replay name script mode wire count) named refused = absurd refused
-      go (replay_with name script given wire count) named refused = absurd refused
+      go (replay name script mode events wire count) named refused = absurd refused
+      go (replay_with name script given events wire count) named refused = absurd refused
       go (explain name script) named refused = absurd refused
       go (load name seed events members raw mode) named refused = absurd refused
       go (node name plan turns me patience mode) named refused = absurd refused

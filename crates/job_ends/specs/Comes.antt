@@ -19,7 +19,7 @@ use Rattle.run_mean.specs.Mode.{Mode, bypass}
 use Rattle.job_mean.specs.Job.{Job, check, synth, pack, replay, replay_with, explain, load, node, audit}
 use Rattle.end_mean.specs.Status.{FileFault, SecondFault, Ended, done, breached, file_refused, report_refused}
 use Rattle.end_mean.specs.Status.{words_refused, second_refused, traces_refused, read_failed, write_failed, no_memory}
-use Rattle.run_mean.specs.Report.{output_in}
+use Rattle.group_mean.specs.Told.{replay_lines}
 use Rattle.run_mean.specs.Tally.{tally, accepted_lines}
 use Rattle.miss_mean.specs.Text.{explained_lines}
 use Rattle.bypass_mean.specs.Bypasses.{Bypasses}
@@ -77,8 +77,8 @@ abbrev pub file_name : Job → Text
 file_name (check file) = file
 file_name (synth file) = file
 file_name (pack file) = file
-file_name (replay file script mode wire count) = file
-file_name (replay_with file script given wire count) = file
+file_name (replay file script mode events wire count) = file
+file_name (replay_with file script given events wire count) = file
 file_name (explain file script) = file
 file_name (load file seed events members raw mode) = file
 file_name (node file plan turns me patience mode) = file
@@ -90,9 +90,9 @@ Finds job told found = IfSome told (λ shelf. found_in shelf (file_name job) ≡
 
 -- What the read of its second file finds after that; a job that has none reads as if it were empty.
 abbrev pub Beside : Job → Option Shelved → Option (List ℕ) → Type 0
-Beside (replay file script mode wire count) told found =
+Beside (replay file script mode events wire count) told found =
     IfSome (option_map after_read told) (λ shelf. found_in shelf script ≡ found)
-Beside (replay_with file script given wire count) told found =
+Beside (replay_with file script given events wire count) told found =
     IfSome (option_map after_read told) (λ shelf. found_in shelf script ≡ found)
 Beside (explain file script) told found = IfSome (option_map after_read told) (λ shelf. found_in shelf script ≡ found)
 Beside (node file plan turns me patience mode) told found =
@@ -101,7 +101,7 @@ Beside _ told found = found ≡ Some []
 
 -- What the read of its third file finds after both; a job that has none reads as if it were empty.
 abbrev pub After : Job → Option Shelved → Option (List ℕ) → Type 0
-After (replay_with file script given wire count) told found =
+After (replay_with file script given events wire count) told found =
     IfSome (option_map after_read (option_map after_read told)) (λ shelf. found_in shelf given ≡ found)
 After _ told found = found ≡ Some []
 
@@ -127,23 +127,23 @@ pub record Audited (file : List ℕ) (law : Law) (lines : List (List ℕ)) : Typ
   pub written : lines ≡ finding_line finding ∷ []
 
 -- That of a replay.
-pub record Replayed (file text : List ℕ) (mode : Mode) (wire count : Bool) (lines : List (List ℕ)) : Type 0 where
+pub record Replayed (file text : List ℕ) (mode : Mode) (events wire count : Bool) (lines : List (List ℕ)) : Type 0 where
   pub stack : List LayerTree
   pub means : Means file stack
   pub script : Script
   pub spelled : script_of text ≡ Ok script
   pub room : HasRoom stack script.members
-  pub written : lines ≡ output_in stack (plans_of stack) script mode wire count
+  pub written : lines ≡ replay_lines stack (plans_of stack) script mode events wire count
 
 -- That of a replay by the traces of a file.
-pub record ReplayedWith (file text third : List ℕ) (wire count : Bool) (lines : List (List ℕ)) : Type 0 where
+pub record ReplayedWith (file text third : List ℕ) (events wire count : Bool) (lines : List (List ℕ)) : Type 0 where
   pub stack : List LayerTree
   pub means : Means file stack
   pub script : Script
   pub spelled : script_of text ≡ Ok script
   pub room : HasRoom stack script.members
   pub accepted : Accepts stack third
-  pub written : lines ≡ output_in stack (plans_of stack) script bypass wire count
+  pub written : lines ≡ replay_lines stack (plans_of stack) script bypass events wire count
 
 -- That of an explanation.
 pub record Explained (file text : List ℕ) (lines : List (List ℕ)) : Type 0 where
@@ -167,9 +167,10 @@ IsOutput (check name) file second third lines = Checked file lines
 IsOutput (synth name) file second third lines = Synthesized printed_lines file lines
 IsOutput (pack name) file second third lines = Synthesized packed_file file lines
 IsOutput (audit name law) file second third lines = Audited file law lines
-IsOutput (replay name script mode wire count) file second third lines = Replayed file second mode wire count lines
-IsOutput (replay_with name script given wire count) file second third lines =
-    ReplayedWith file second third wire count lines
+IsOutput (replay name script mode events wire count) file second third lines =
+    Replayed file second mode events wire count lines
+IsOutput (replay_with name script given events wire count) file second third lines =
+    ReplayedWith file second third events wire count lines
 IsOutput (explain name script) file second third lines = Explained file second lines
 IsOutput (load name seed events members raw mode) file second third lines =
     Loaded file seed events members raw mode lines

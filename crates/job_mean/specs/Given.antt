@@ -3,7 +3,7 @@ use Rattle.std.specs.Prelude.{Bool, List, Option, Some, codes}
 use Rattle.clap.specs.Walk.{Row, Text, first_of}
 use Rattle.command_line.specs.Rules.{is_set, read_in}
 use Rattle.script_mean.specs.Words.{◌>>=◌}
-use Rattle.job_mean.specs.Command.{command}
+use Rattle.job_mean.specs.Command.{command, telling_command}
 
 -- the words at their places, the value of each option, and whether each flag was given
 pub record Given : Type 0 where
@@ -22,6 +22,7 @@ pub record Given : Type 0 where
   pub wire : Bool
   pub count : Bool
   pub raw : Bool
+  pub telling : Bool
 
 -- what `clap` found, by name
 abbrev pub given_in : List Row → Option Given
@@ -44,8 +45,13 @@ given_in rows = do
     wire = is_set (codes "wire") rows;
     count = is_set (codes "count") rows;
     raw = is_set (codes "raw") rows;
+    telling = is_set (codes "telling") rows;
   })
 
 -- what the words after the program's name give, if `clap` takes them
 abbrev pub given_of : List Text → Option Given
 given_of = read_in command given_in
+
+-- what they give if they are those of a replay that tells its events
+abbrev pub telling_of : List Text → Option Given
+telling_of = read_in telling_command given_in

@@ -7,20 +7,21 @@ use Rattle.clap.specs.Walk.{Text}
 use Rattle.audit_mean.specs.declared.law.Law.{Law}
 use Rattle.audit_mean.specs.declared.law.Law.TheVariants.{Sender, Total, Same}
 use Rattle.script_mean.specs.Words.{◌>>=◌, number_within}
-use Rattle.job_mean.specs.Given.{Given, given_of}
+use Rattle.job_mean.specs.Given.{Given, given_of, telling_of}
 use Rattle.msg_core.specs.View.{most_members, last_member}
 use Rattle.run_mean.specs.Mode.{Mode, layered, bypass}
 
 -- what the program is to do: judge a file; print its bypasses; write the traces of these as a file; replay a script,
--- with the packets' bytes or the number of visits if wanted, by the bypasses of the stack or by those whose traces a
--- file holds; tell why the steps of a script weren't common; replay a script that is made from a seed, with datagrams
--- in it if wanted; run members over a network of which n receives may fail; judge a law of the group on a report
+-- with the events, the packets' bytes or the number of visits if wanted, by the bypasses of the stack or by those whose
+-- traces a file holds; tell why the steps of a script weren't common; replay a script that is made from a seed, with
+-- datagrams in it if wanted; run members over a network of which n receives may fail; judge a law of the group on a
+-- report
 pub data Job : Type 0 where
   check : (file : Text) → Job
   synth : (file : Text) → Job
   pack : (file : Text) → Job
-  replay : (file script : Text) (mode : Mode) (wire count : Bool) → Job
-  replay_with : (file script traces : Text) (wire count : Bool) → Job
+  replay : (file script : Text) (mode : Mode) (events wire count : Bool) → Job
+  replay_with : (file script traces : Text) (events wire count : Bool) → Job
   explain : (file script : Text) → Job
   load : (file : Text) (seed events members : ℕ) (raw : Bool) (mode : Mode) → Job
   node : (file plan : Text) (turns : ℕ) (members : List ℕ) (patience : ℕ) (mode : Mode) → Job
@@ -127,11 +128,12 @@ pack_job given = do
 
 -- a replay in a mode: only one by bypasses may be given the traces of a file
 abbrev pub replay_by : Given → (script : Text) → Mode → Option Text → Option Job
-replay_by given script mode None = Some (replay given.file script mode given.wire given.count)
-replay_by given script bypass (Some traces) = Some (replay_with given.file script traces given.wire given.count)
+replay_by given script mode None = Some (replay given.file script mode given.telling given.wire given.count)
+replay_by given script bypass (Some traces) =
+    Some (replay_with given.file script traces given.telling given.wire given.count)
 replay_by given script layered (Some traces) = None
 
--- `replay FILE SCRIPT`, may have `--run MODE`, `--with TRACES`, `--wire` and `--count`
+-- `replay FILE SCRIPT`, may have `--run MODE`, `--with TRACES`, `--events`, `--wire` and `--count`
 abbrev pub replay_job : Given → Option Job
 replay_job given = do
   _ ← with_only (codes "second" ∷ codes "run" ∷ codes "with" ∷ codes "wire" ∷ codes "count" ∷ []) given
@@ -187,6 +189,16 @@ job given =
     else if bytes_eq given.job (codes "audit") then audit_job given
     else None
 
--- the job that the words after the program's name are, if they are one
+-- a replay, which alone tells its events
+abbrev pub telling_job : Given → Option Job
+telling_job given = if bytes_eq given.job (codes "replay") then replay_job given else None
+
+-- the first of two that is a job
+abbrev pub first_job : Option Job → Option Job → Option Job
+first_job (Some job) other = Some job
+first_job None other = other
+
+-- the job that the words after the program's name are, if they are one: by the command of all jobs, or else by that of
+-- a replay that tells its events
 abbrev pub job_of_words : List Text → Option Job
-job_of_words words = given_of words >>= job
+job_of_words words = first_job (given_of words >>= job) (telling_of words >>= telling_job)

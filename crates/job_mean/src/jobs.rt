@@ -1,14 +1,15 @@
 //! Words of the command line, and the jobs that they name by the definitions.
 ghost use Rattle.std.specs.Prelude.{◌≡◌, [], ◌∷◌, Some, codes, true, false};
 ghost use Rattle.clap.specs.Faults.{is_simple_and_free};
-ghost use Rattle.job_mean.specs.Command.{command};
+ghost use Rattle.job_mean.specs.Command.{command, telling_command};
 ghost use Rattle.audit_mean.specs.declared.law.Law.TheVariants.{Sender, Total, Same};
 ghost use Rattle.run_mean.specs.Mode.{layered, bypass};
 ghost use Rattle.job_mean.specs.Job.{job_of_words, check, synth, pack, replay, replay_with, explain, load, node, audit};
 
-/// `clap` promises of this command what it finds, and that it refuses exactly what the definition refuses.
+/// `clap` promises of these commands what it finds, and that it refuses exactly what the definition refuses.
 pub fn simple_command()
-    ensures { is_simple_and_free command ≡ true }
+    ensures all { is_simple_and_free command ≡ true }
+    ensures telling { is_simple_and_free telling_command ≡ true }
 {}
 
 /// These words name these jobs.
@@ -17,17 +18,24 @@ pub fn name_jobs()
     ensures packs { job_of_words (codes "pack" ∷ codes "a.layers" ∷ []) ≡ Some (pack (codes "a.layers")) }
     ensures synthesizes { job_of_words (codes "synth" ∷ codes "a.layers" ∷ []) ≡ Some (synth (codes "a.layers")) }
     ensures replays { job_of_words (codes "replay" ∷ codes "a" ∷ codes "b" ∷ codes "--run" ∷ codes "layered" ∷ []) ≡
-        Some (replay (codes "a") (codes "b") layered false false) }
+        Some (replay (codes "a") (codes "b") layered false false false) }
     ensures replays_by_default { job_of_words (codes "replay" ∷ codes "a" ∷ codes "b" ∷ []) ≡
-        Some (replay (codes "a") (codes "b") bypass false false) }
+        Some (replay (codes "a") (codes "b") bypass false false false) }
     ensures in_any_order { job_of_words (codes "--count" ∷ codes "replay" ∷ codes "--run=bypass" ∷ codes "a" ∷
         codes "--wire" ∷ codes "b" ∷
-        []) ≡ Some (replay (codes "a") (codes "b") bypass true true) }
+        []) ≡ Some (replay (codes "a") (codes "b") bypass false true true) }
     ensures replays_traces { job_of_words (codes "replay" ∷ codes "a" ∷ codes "b" ∷ codes "--with" ∷ codes "t" ∷ []) ≡
-        Some (replay_with (codes "a") (codes "b") (codes "t") false false) }
+        Some (replay_with (codes "a") (codes "b") (codes "t") false false false) }
     ensures replays_traces_by_bypasses { job_of_words (codes "replay" ∷ codes "--with=t" ∷ codes "a" ∷ codes "--wire" ∷
         codes "--run=bypass" ∷
-        codes "b" ∷ codes "--count" ∷ []) ≡ Some (replay_with (codes "a") (codes "b") (codes "t") true true) }
+        codes "b" ∷ codes "--count" ∷ []) ≡ Some (replay_with (codes "a") (codes "b") (codes "t") false true true) }
+    ensures tells_events { job_of_words (codes "replay" ∷ codes "a" ∷ codes "b" ∷ codes "--events" ∷ []) ≡
+        Some (replay (codes "a") (codes "b") bypass true false false) }
+    ensures tells_events_in_any_order { job_of_words (codes "--events" ∷ codes "--run=layered" ∷ codes "replay" ∷
+        codes "a" ∷ codes "--wire" ∷ codes "b" ∷ codes "--count" ∷ []) ≡
+        Some (replay (codes "a") (codes "b") layered true true true) }
+    ensures tells_events_by_traces { job_of_words (codes "replay" ∷ codes "a" ∷ codes "--events" ∷ codes "b" ∷
+        codes "--with=t" ∷ []) ≡ Some (replay_with (codes "a") (codes "b") (codes "t") true false false) }
     ensures explains { job_of_words (codes "explain" ∷ codes "a" ∷ codes "b" ∷ []) ≡
         Some (explain (codes "a") (codes "b")) }
     ensures loads { job_of_words (codes "load" ∷ codes "a" ∷ codes "--seed=4294967295" ∷ codes "--events" ∷
@@ -52,5 +60,5 @@ pub fn name_jobs()
     ensures after_the_end_of_options { job_of_words (codes "check" ∷ codes "--" ∷ codes "--wire" ∷ []) ≡
         Some (check (codes "--wire")) }
     ensures hyphen_and_nothing { job_of_words (codes "replay" ∷ codes "-" ∷ [] ∷ []) ≡
-        Some (replay (codes "-") [] bypass false false) }
+        Some (replay (codes "-") [] bypass false false false) }
 {}

@@ -14,6 +14,10 @@ pub fn refuse_by_clap()
         []) ≡ None }
     ensures flag_twice { job_of_words (codes "replay" ∷ codes "a" ∷ codes "b" ∷ codes "--wire" ∷ codes "--wire" ∷ []) ≡
         None }
+    ensures events_twice { job_of_words (codes "replay" ∷ codes "a" ∷ codes "b" ∷ codes "--events" ∷ codes "--events" ∷
+        []) ≡ None }
+    ensures events_with_a_value { job_of_words (codes "replay" ∷ codes "a" ∷ codes "b" ∷ codes "--events=1" ∷ []) ≡
+        None }
     ensures raw_twice { job_of_words (codes "load" ∷ codes "a" ∷ codes "--seed=1" ∷ codes "--events=1" ∷
         codes "--members=1" ∷ codes "--raw" ∷ codes "--raw" ∷ []) ≡ None }
     ensures flag_with_a_value { job_of_words (codes "replay" ∷ codes "a" ∷ codes "b" ∷ codes "--wire=true" ∷ []) ≡
@@ -55,6 +59,11 @@ pub fn refuse_by_job()
     ensures traces_for_node { job_of_words (codes "node" ∷ codes "a" ∷ codes "b" ∷ codes "--turns=1" ∷ codes "--me=0" ∷
         codes "--with=t" ∷
         []) ≡ None }
+    ensures events_for_explain { job_of_words (codes "explain" ∷ codes "a" ∷ codes "b" ∷ codes "--events" ∷ []) ≡ None }
+    ensures number_of_events_for_replay { job_of_words (codes "replay" ∷ codes "a" ∷ codes "b" ∷ codes "--events" ∷
+        codes "1" ∷ []) ≡ None }
+    ensures events_without_a_number { job_of_words (codes "load" ∷ codes "a" ∷ codes "--seed=1" ∷ codes "--members=1" ∷
+        codes "--events" ∷ []) ≡ None }
     ensures seed_for_replay { job_of_words (codes "replay" ∷ codes "a" ∷ codes "b" ∷ codes "--seed=1" ∷ []) ≡ None }
     ensures script_for_load { job_of_words (codes "load" ∷ codes "a" ∷ codes "b" ∷ codes "--seed=1" ∷
         codes "--events=1" ∷

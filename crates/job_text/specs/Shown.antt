@@ -16,8 +16,8 @@ abbrev pub shown_job : Job → job.Job
 shown_job (Check file) = job.check file.now
 shown_job (Synth file) = job.synth file.now
 shown_job (Pack file) = job.pack file.now
-shown_job (Replay r) = job.replay r.file.now r.script.now (shown_mode r.mode) r.wire r.count
-shown_job (ReplayWith r) = job.replay_with r.file.now r.script.now r.traces.now r.wire r.count
+shown_job (Replay r) = job.replay r.file.now r.script.now (shown_mode r.mode) r.events r.wire r.count
+shown_job (ReplayWith r) = job.replay_with r.file.now r.script.now r.traces.now r.events r.wire r.count
 shown_job (Explain e) = job.explain e.file.now e.script.now
 shown_job (Load l) = job.load l.file.now l.seed l.events l.members l.raw (shown_mode l.mode)
 shown_job (Node n) = job.node n.file.now n.plan.now n.turns n.members.items n.patience (shown_mode n.mode)
@@ -44,6 +44,7 @@ shown_given g = record {
   wire = g.wire;
   count = g.count;
   raw = g.raw;
+  telling = g.telling;
 }
 
 -- the job of a node whose own members are read

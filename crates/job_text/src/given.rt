@@ -29,6 +29,7 @@ pub(crate) struct Given<'w> {
     pub wire: bool,
     pub count: bool,
     pub raw: bool,
+    pub telling: bool,
 }
 
 /// A word that not every job has, and whether it was given.
@@ -57,6 +58,7 @@ impl<'w> Given<'w> {
             wire: is_set(matches, "wire"),
             count: is_set(matches, "count"),
             raw: is_set(matches, "raw"),
+            telling: is_set(matches, "telling"),
         })
     }
 

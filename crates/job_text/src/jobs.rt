@@ -48,6 +48,17 @@ pub(crate) fn job_of<'w>(alloc: Global, given: &Given<'w>) -> Result<Option<Job<
     }
 }
 
+/// A replay, which alone tells its events.
+pub(crate) fn telling_job<'w>(given: &Given<'w>) -> Option<Job<'w>>
+    ensures { option_map shown_job result ≡ spec.telling_job (shown_given given.now) }
+{
+    if given.job == "replay" {
+        replay(given)
+    } else {
+        None
+    }
+}
+
 /// `check FILE`
 fn check<'w>(given: &Given<'w>) -> Option<Job<'w>>
     ensures { option_map shown_job result ≡ spec.check_job (shown_given given.now) }
@@ -81,7 +92,7 @@ fn pack<'w>(given: &Given<'w>) -> Option<Job<'w>>
     }
 }
 
-/// `replay FILE SCRIPT`, may have `--run MODE`, `--with TRACES`, `--wire` and `--count`.
+/// `replay FILE SCRIPT`, may have `--run MODE`, `--with TRACES`, `--events`, `--wire` and `--count`.
 fn replay<'w>(given: &Given<'w>) -> Option<Job<'w>>
     ensures { option_map shown_job result ≡ spec.replay_job (shown_given given.now) }
 {
@@ -103,6 +114,7 @@ fn replay_by<'w>(given: &Given<'w>, script: &'w str, mode: Mode) -> Option<Job<'
             file: given.file,
             script,
             mode,
+            events: given.telling,
             wire: given.wire,
             count: given.count,
         }));
@@ -113,6 +125,7 @@ fn replay_by<'w>(given: &Given<'w>, script: &'w str, mode: Mode) -> Option<Job<'
             file: given.file,
             script,
             traces,
+            events: given.telling,
             wire: given.wire,
             count: given.count,
         })),

@@ -30,6 +30,8 @@ pub struct Replay<'w> {
     pub file: &'w str,
     pub script: &'w str,
     pub mode: Mode,
+    /// Whether each event is written before what came of it.
+    pub events: bool,
     /// Whether each packet's bytes are written.
     pub wire: bool,
     /// Whether the number of visits is written.
@@ -42,6 +44,8 @@ pub struct ReplayWith<'w> {
     pub file: &'w str,
     pub script: &'w str,
     pub traces: &'w str,
+    /// Whether each event is written before what came of it.
+    pub events: bool,
     /// Whether each packet's bytes are written.
     pub wire: bool,
     /// Whether the number of visits is written.

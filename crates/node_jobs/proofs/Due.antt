@@ -19,7 +19,7 @@ use Rattle.end_mean.specs.Status.{write_failed, link_failed, no_memory, misspell
 use Rattle.job_ends.specs.Printed.{printed_text}
 use Rattle.program_mean.specs.Headline.{Run}
 use Rattle.output_mean.specs.Judged.{Means, Refuses}
-use Rattle.group_mean.specs.Node.{failures}
+use Rattle.group_mean.specs.Node.{failures, receiving}
 use Rattle.output_mean.specs.Output.{IsNode}
 use Rattle.program_mean.specs.Second.{after_plan, crowd_fault}
 use Rattle.program_laws.proofs.Files.{one_meaning, good_or_refused}
@@ -120,8 +120,8 @@ module _ (w : Node) (told : Option Shelved) (good : Good w told) (a b : Whereabo
       (receives_failed w.mode stack (plans_of stack) (first_of_plan stack good.node.plan)
       (doings_of good.node.plan w.me w.turns w.patience d.s.clock d.s.heard)
       r.flags (after_listens good.node.plan.peers w.me n) n' r.goes) in
-      let fewer = fewer_fail (length d.s.heard) (w.turns * length w.me) n.recvs
-      (within_all (length d.s.clock) w.turns (length w.me) (length d.s.heard) d.turns d.within) in
+      let fewer = fewer_fail (length d.s.heard) (w.turns * length (receiving w.me)) n.recvs
+      (within_all (length d.s.clock) w.turns (length (receiving w.me)) (length d.s.heard) d.turns d.within) in
       let many = too_many_failed in
       let most = borne.receives in
       omega (arith, failed, fewer, many, most)

@@ -9,7 +9,7 @@ use Rattle.script_mean.specs.declared.event.ScriptEvent.{ScriptEvent}
 use Rattle.script_mean.specs.declared.event.ScriptEvent.TheVariants.{Tick}
 use Rattle.script_mean.specs.declared.plan.NodePlan.{NodePlan}
 use Rattle.run_mean.specs.Journal.{Heard, datagram, silence, failure, planned_events}
-use Rattle.group_mean.specs.Node.{failures, is_failure}
+use Rattle.group_mean.specs.Node.{failures, is_failure, receiving}
 use Rattle.node_laws.specs.Doings.{does, asking, while_patient, doings_from, heard_in}
 use Rattle.node_laws.proofs.Parts.{heard_append}
 
@@ -86,17 +86,17 @@ module _ (plan : NodePlan) (me : List ℕ) where
   following t turns clock heard left =
       heard_in (while_patient left
       (λ left. map does (planned_events plan me t) ++
-      doings_from plan me (t + 1) turns left clock (drop (length me) heard)))
+      doings_from plan me (t + 1) turns left clock (drop (length (receiving me)) heard)))
 
   turn_hears : (t turns patience moment : ℕ) (clock : List ℕ) (heard : List Heard) →
       heard_in (doings_from plan me t (suc turns) patience (moment ∷ clock) heard)
-      ≡ heard_in (asking patience (zip me (take (length me) heard))).doings
-      ++ following t turns clock heard (asking patience (zip me (take (length me) heard))).patience
+      ≡ heard_in (asking patience (zip (receiving me) (take (length (receiving me)) heard))).doings
+      ++ following t turns clock heard (asking patience (zip (receiving me) (take (length (receiving me)) heard))).patience
   turn_hears t turns patience moment clock heard =
-      let a = asking patience (zip me (take (length me) heard)) in
+      let a = asking patience (zip (receiving me) (take (length (receiving me)) heard)) in
       let rest = while_patient a.patience
       (λ left. map does (planned_events plan me t) ++
-      doings_from plan me (t + 1) turns left clock (drop (length me) heard)) in
+      doings_from plan me (t + 1) turns left clock (drop (length (receiving me)) heard)) in
       heard_append (map (λ id. does (Tick id moment)) me ++ a.doings) rest
       ∙ ap (λ h. h ++ heard_in rest)
       (heard_append (map (λ id. does (Tick id moment)) me) a.doings
@@ -104,35 +104,35 @@ module _ (plan : NodePlan) (me : List ℕ) where
 
   -- a turn that is borne goes on
   turn_goes_on : (t turns patience moment : ℕ) (clock : List ℕ) (heard : List Heard) →
-      failures (take (length me) heard) ≤ patience →
-      heard_in (doings_from plan me (t + 1) turns (patience - failures (take (length me) heard)) clock
-      (drop (length me) heard)) ≡ drop (length me) heard →
+      failures (take (length (receiving me)) heard) ≤ patience →
+      heard_in (doings_from plan me (t + 1) turns (patience - failures (take (length (receiving me)) heard)) clock
+      (drop (length (receiving me)) heard)) ≡ drop (length (receiving me)) heard →
       heard_in (doings_from plan me t (suc turns) patience (moment ∷ clock) heard) ≡ heard
   turn_goes_on t turns patience moment clock heard borne rest =
-      let few = length-take (length me) heard in
-      let asked = asks_all patience me (take (length me) heard) (omega (arith, few)) borne in
+      let few = length-take (length (receiving me)) heard in
+      let asked = asks_all patience (receiving me) (take (length (receiving me)) heard) (omega (arith, few)) borne in
       turn_hears t turns patience moment clock heard
-      ∙ ap (λ h. h ++ following t turns clock heard (asking patience (zip me (take (length me) heard))).patience)
+      ∙ ap (λ h. h ++ following t turns clock heard (asking patience (zip (receiving me) (take (length (receiving me)) heard))).patience)
       asked.0
-      ∙ ap (λ left. take (length me) heard ++ following t turns clock heard left) asked.1
-      ∙ ap (λ h. take (length me) heard ++ h)
+      ∙ ap (λ left. take (length (receiving me)) heard ++ following t turns clock heard left) asked.1
+      ∙ ap (λ h. take (length (receiving me)) heard ++ h)
       (heard_append (map does (planned_events plan me t))
-      (doings_from plan me (t + 1) turns (patience - failures (take (length me) heard)) clock
-      (drop (length me) heard))
+      (doings_from plan me (t + 1) turns (patience - failures (take (length (receiving me)) heard)) clock
+      (drop (length (receiving me)) heard))
       ∙ ap (λ h. h ++ heard_in
-      (doings_from plan me (t + 1) turns (patience - failures (take (length me) heard)) clock
-      (drop (length me) heard)))
+      (doings_from plan me (t + 1) turns (patience - failures (take (length (receiving me)) heard)) clock
+      (drop (length (receiving me)) heard)))
       (events_hear (λ event. event) (planned_events plan me t))
       ∙ rest)
-      ∙ take-append-drop (length me) heard
+      ∙ take-append-drop (length (receiving me)) heard
 
-  parted : (heard : List Heard) → failures (take (length me) heard) + failures (drop (length me) heard) ≡ failures heard
-  parted heard = sym (failures_append (take (length me) heard) (drop (length me) heard)) ∙
-      ap failures (take-append-drop (length me) heard)
+  parted : (heard : List Heard) → failures (take (length (receiving me)) heard) + failures (drop (length (receiving me)) heard) ≡ failures heard
+  parted heard = sym (failures_append (take (length (receiving me)) heard) (drop (length (receiving me)) heard)) ∙
+      ap failures (take-append-drop (length (receiving me)) heard)
 
   -- all turns hear all
   pub hears_all : (t turns patience : ℕ) (clock : List ℕ) (heard : List Heard) → length clock ≡ turns →
-      length heard ≡ turns * length me →
+      length heard ≡ turns * length (receiving me) →
       failures heard ≤ patience → heard_in (doings_from plan me t turns patience clock heard) ≡ heard
   hears_all t zero patience clock heard moments answers borne = sym (none heard (omega (arith, answers))) where
     none : (heard : List Heard) → length heard ≡ 0 → heard ≡ []
@@ -141,59 +141,59 @@ module _ (plan : NodePlan) (me : List ℕ) where
   hears_all t (suc turns) patience [] heard moments answers borne = absurd (omega (arith, moments))
   hears_all t (suc turns) patience (moment ∷ clock) heard moments answers borne =
       let parts = parted heard in
-      let left = length-drop (length me) heard in
+      let left = length-drop (length (receiving me)) heard in
       turn_goes_on t turns patience moment clock heard (omega (arith, borne, parts))
-      (hears_all (t + 1) turns (patience - failures (take (length me) heard)) clock (drop (length me) heard)
+      (hears_all (t + 1) turns (patience - failures (take (length (receiving me)) heard)) clock (drop (length (receiving me)) heard)
       (omega (arith, moments))
       (omega (arith, answers, left)) (omega (arith, borne, parts)))
 
   -- and those up to a failure that isn't borne hear it last
   pub hears_last : (t turns patience : ℕ) (clock : List ℕ) (before : List Heard) → length clock ≤ turns →
-      length (before ++ failure ∷ []) ≤ length clock * length me → failures before ≡ patience →
+      length (before ++ failure ∷ []) ≤ length clock * length (receiving me) → failures before ≡ patience →
       heard_in (doings_from plan me t turns patience clock (before ++ failure ∷ [])) ≡ before ++ failure ∷ []
   hears_last t turns patience [] before few within all = let long = length-append before (failure ∷ []) in
       absurd (omega (arith, within, long))
   hears_last t zero patience (moment ∷ clock) before few within all = absurd (omega (arith, few))
   hears_last t (suc turns) patience (moment ∷ clock) before few within all = ⊎_elim last
-      (on (λ p. hears_last (t + 1) turns p clock (drop (length me) before) (omega (arith, few))))
-      (cases_lt (length before) (length me)) where
-        last : length before < length me →
+      (on (λ p. hears_last (t + 1) turns p clock (drop (length (receiving me)) before) (omega (arith, few))))
+      (cases_lt (length before) (length (receiving me))) where
+        last : length before < length (receiving me) →
             heard_in (doings_from plan me t (suc turns) patience (moment ∷ clock) (before ++ failure ∷ [])) ≡
             (before ++ failure ∷ [])
         last lt =
             let long = length-append before (failure ∷ []) in
-            let whole : take (length me) (before ++ failure ∷ []) ≡ (before ++ failure ∷ []) =
-            take_all (length me) (before ++ failure ∷ []) (omega (arith, long, lt)) in
-            let asked = asks_last patience me before lt all in
+            let whole : take (length (receiving me)) (before ++ failure ∷ []) ≡ (before ++ failure ∷ []) =
+            take_all (length (receiving me)) (before ++ failure ∷ []) (omega (arith, long, lt)) in
+            let asked = asks_last patience (receiving me) before lt all in
             turn_hears t turns patience moment clock (before ++ failure ∷ [])
-            ∙ ap (λ hs. heard_in (asking patience (zip me hs)).doings ++
-            following t turns clock (before ++ failure ∷ []) (asking patience (zip me hs)).patience) whole
+            ∙ ap (λ hs. heard_in (asking patience (zip (receiving me) hs)).doings ++
+            following t turns clock (before ++ failure ∷ []) (asking patience (zip (receiving me) hs)).patience) whole
             ∙ ap (λ h. h ++ following t turns clock (before ++ failure ∷ [])
-            (asking patience (zip me (before ++ failure ∷ []))).patience) asked.0
+            (asking patience (zip (receiving me) (before ++ failure ∷ []))).patience) asked.0
             ∙ ap (λ left. (before ++ failure ∷ []) ++ following t turns clock (before ++ failure ∷ []) left) asked.1
             ∙ append-nil (before ++ failure ∷ [])
 
-        on : ((p : ℕ) → length (drop (length me) before ++ failure ∷ []) ≤ length clock * length me →
-            failures (drop (length me) before) ≡ p →
-            heard_in (doings_from plan me (t + 1) turns p clock (drop (length me) before ++ failure ∷ [])) ≡
-            drop (length me) before ++ failure ∷ []) →
-            length me ≤ length before →
+        on : ((p : ℕ) → length (drop (length (receiving me)) before ++ failure ∷ []) ≤ length clock * length (receiving me) →
+            failures (drop (length (receiving me)) before) ≡ p →
+            heard_in (doings_from plan me (t + 1) turns p clock (drop (length (receiving me)) before ++ failure ∷ [])) ≡
+            drop (length (receiving me)) before ++ failure ∷ []) →
+            length (receiving me) ≤ length before →
             heard_in (doings_from plan me t (suc turns) patience (moment ∷ clock) (before ++ failure ∷ [])) ≡
             (before ++ failure ∷ [])
         on later le =
-            let front : take (length me) (before ++ failure ∷ []) ≡ take (length me) before =
-            take-append-le (length me) before (failure ∷ []) le in
-            let rest : drop (length me) (before ++ failure ∷ []) ≡ drop (length me) before ++ failure ∷ [] =
-            drop-append-le (length me) before (failure ∷ []) le in
-            let fails : failures (take (length me) (before ++ failure ∷ [])) ≡ failures (take (length me) before) =
+            let front : take (length (receiving me)) (before ++ failure ∷ []) ≡ take (length (receiving me)) before =
+            take-append-le (length (receiving me)) before (failure ∷ []) le in
+            let rest : drop (length (receiving me)) (before ++ failure ∷ []) ≡ drop (length (receiving me)) before ++ failure ∷ [] =
+            drop-append-le (length (receiving me)) before (failure ∷ []) le in
+            let fails : failures (take (length (receiving me)) (before ++ failure ∷ [])) ≡ failures (take (length (receiving me)) before) =
             ap failures front in
             let parts = parted before in
             let long = length-append before (failure ∷ []) in
-            let left = length-drop (length me) before in
-            let long_left = length-append (drop (length me) before) (failure ∷ []) in
+            let left = length-drop (length (receiving me)) before in
+            let long_left = length-append (drop (length (receiving me)) before) (failure ∷ []) in
             turn_goes_on t turns patience moment clock (before ++ failure ∷ []) (omega (arith, all, parts, fails))
             (subst (λ hs. heard_in
-            (doings_from plan me (t + 1) turns (patience - failures (take (length me) (before ++ failure ∷ [])))
+            (doings_from plan me (t + 1) turns (patience - failures (take (length (receiving me)) (before ++ failure ∷ [])))
             clock hs) ≡ hs) (sym rest)
-            (later (patience - failures (take (length me) (before ++ failure ∷ [])))
+            (later (patience - failures (take (length (receiving me)) (before ++ failure ∷ [])))
             (omega (arith, within, long, left, long_left, le)) (omega (arith, all, parts, fails))))

@@ -179,7 +179,7 @@ module _ (words : List Text) (w : Node) (a : Around) (n : Beyond) (is : job_of_w
     deaf_hears = subst (λ heard. heard_in (doings_of r.good.node.plan w.me w.turns w.patience r.served.s.clock heard) ≡
         heard) (sym r.served.last)
         (hears_last r.good.node.plan w.me 0 w.turns w.patience r.served.s.clock r.served.before r.served.turns
-        (subst (λ heard. length heard ≤ length r.served.s.clock * length w.me) r.served.last r.served.within)
+        (subst (λ heard. length heard ≤ length r.served.s.clock * length (receiving w.me)) r.served.last r.served.within)
         r.served.borne)
 
     went_deaf : Reached words w a n link_failed

@@ -3,6 +3,7 @@ use Rattle.std.specs.Prelude.{◌≡◌, ◌⊎◌, ℕ, ◌*◌, ◌≤◌, fal
 use Rattle.outside.specs.Count.{Rose}
 use Rattle.outside.specs.Links.{Network}
 use Rattle.outside.specs.Shelf.{Shelved}
+use Rattle.group_mean.specs.Node.{receiving}
 use Rattle.end_mean.specs.Status.{Ended, done, file_refused, second_refused, read_failed, status_number}
 use Rattle.job_ends.specs.Comes.{Around, BadFile, BadSecond, Unfound}
 use Rattle.job_ends.specs.Due.{Due, NoPutFailed}
@@ -13,7 +14,7 @@ use Rattle.node_jobs.specs.Comes.{Beyond, Node, Good, Ran, job_of}
 -- A network lets a node's members listen, and fails no more of its receives than are borne.
 pub record IsBorne (w : Node) (n : Network) : Type 0 where
   pub listens : flags_of (length w.me) n.listens ≡ replicate (length w.me) false
-  pub receives : failures_in (flags_of (w.turns * length w.me) n.recvs) ≤ w.patience
+  pub receives : failures_in (flags_of (w.turns * length (receiving w.me)) n.recvs) ≤ w.patience
 
 -- The network bore the node: it tells so; or, where it doesn't tell, its count of failed listens and receives didn't
 -- rise, nor does it stand at its last value.

@@ -17,14 +17,14 @@ use group_member::OpenError;
 use group_open::{Opened, open};
 use job_ends::Ending;
 use job_text::NodeJob;
-use node_loop::{Course, serve};
-use outside::{Clock, Links, Shelf, Sink};
+use live_outside::{LiveLinks, LiveSink};
+use outside::{Clock, Shelf};
 use script_mean::{GroupLine, NodePlan};
 use stack_judge::Stack;
 use std::alloc::{AllocError, Global};
 
 /// Runs own members of a plan's group over a network, and writes what they do and what it gives.
-pub fn run_node<S: Shelf, O: Sink, N: Links, C: Clock>(
+pub fn run_node<S: Shelf, O: LiveSink, N: LiveLinks, C: Clock>(
     alloc: Global,
     node: &NodeJob<'_>,
     shelf: &mut S,
@@ -46,7 +46,7 @@ pub fn run_node<S: Shelf, O: Sink, N: Links, C: Clock>(
 }
 
 /// Runs the own members of a plan whose files are read.
-fn serve_plan<O: Sink, N: Links, C: Clock>(
+fn serve_plan<O: LiveSink, N: LiveLinks, C: Clock>(
     alloc: Global,
     stack: Stack,
     plan: &NodePlan,

@@ -7,7 +7,8 @@ use Rattle.std.proofs.lemmas.List.Elements.{filter_map-append}
 use Rattle.script_mean.specs.declared.event.ScriptEvent.{ScriptEvent}
 use Rattle.script_mean.specs.declared.event.ScriptEvent.TheVariants.{Tick, Raw}
 use Rattle.run_mean.specs.Journal.{Heard, datagram, silence, failure, Note, fed, deaf, hearing, planned_events}
-use Rattle.run_mean.specs.Journal.{while_patient, notes_from}
+use Rattle.run_mean.specs.Journal.{while_patient}
+use Rattle.group_mean.specs.Node.{notes_from, receiving}
 use Rattle.node_laws.specs.Doings.{Doing, does, note_in, asking, doings_from, NotesAreOfDoings}
 use Rattle.node_laws.specs.Doings.{while_patient as going_on}
 
@@ -49,11 +50,11 @@ pub notes_are_of_doings : NotesAreOfDoings
 notes_are_of_doings plan me t zero patience clock heard = refl
 notes_are_of_doings plan me t (suc turns) patience [] heard = refl
 notes_are_of_doings plan me t (suc turns) patience (moment ∷ clock) heard =
-    let asked = zip me (take (length me) heard) in
+    let asked = zip (receiving me) (take (length (receiving me)) heard) in
     let ticks = map (λ id. does (Tick id moment)) me in
     let a = asking patience asked in
     let planned = planned_events plan me t in
-    let following = drop (length me) heard in
+    let following = drop (length (receiving me)) heard in
     let next : ℕ → List Doing = λ left. map does planned ++ doings_from plan me (t + 1) turns left clock following in
     let next' : ℕ → List Note = λ left. map fed planned ++ notes_from plan me (t + 1) turns left clock following in
     both_noted (ticks ++ a.doings) (going_on a.patience next) _ _

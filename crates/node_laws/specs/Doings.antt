@@ -7,7 +7,7 @@ use Rattle.script_mean.specs.declared.event.ScriptEvent.{ScriptEvent}
 use Rattle.script_mean.specs.declared.event.ScriptEvent.TheVariants.{Tick, Raw}
 use Rattle.script_mean.specs.declared.plan.NodePlan.{NodePlan}
 use Rattle.run_mean.specs.Journal.{Heard, datagram, silence, failure, Note, fed, deaf, journal, planned_events}
-use Rattle.run_mean.specs.Journal.{notes_from}
+use Rattle.group_mean.specs.Node.{notes_from, receiving}
 
 -- A member takes an event; a member asks the network, and hears something; a failure to hear is borne.
 pub data Doing : Type 0 where
@@ -42,10 +42,11 @@ abbrev pub doings_from : NodePlan → List ℕ → (t turns patience : ℕ) (mom
 doings_from plan me t zero patience clock heard = []
 doings_from plan me t (suc turns) patience [] heard = []
 doings_from plan me t (suc turns) patience (moment ∷ clock) heard =
-    let a = asking patience (zip me (take (length me) heard)) in
+    let a = asking patience (zip (receiving me) (take (length (receiving me)) heard)) in
     map (λ id. does (Tick id moment)) me ++ a.doings
     ++ while_patient a.patience (λ left.
-    map does (planned_events plan me t) ++ doings_from plan me (t + 1) turns left clock (drop (length me) heard))
+    map does (planned_events plan me t)
+    ++ doings_from plan me (t + 1) turns left clock (drop (length (receiving me)) heard))
 
 abbrev pub doings_of : NodePlan → List ℕ → (turns patience : ℕ) → List ℕ → List Heard → List Doing
 doings_of plan me turns patience clock heard = doings_from plan me 0 turns patience clock heard

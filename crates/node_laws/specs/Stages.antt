@@ -10,7 +10,7 @@ use Rattle.script_mean.specs.declared.event.ScriptEvent.{ScriptEvent}
 use Rattle.script_mean.specs.declared.event.ScriptEvent.TheVariants.{Tick, Raw}
 use Rattle.script_mean.specs.declared.plan.NodePlan.{NodePlan}
 use Rattle.run_mean.specs.Journal.{Heard, datagram, silence, failure, planned_events}
-use Rattle.group_mean.specs.Node.{failures}
+use Rattle.group_mean.specs.Node.{failures, receiving}
 use Rattle.node_laws.specs.Doings.{Doing, does, asks, bears, asking, while_patient, doings_from}
 
 -- A node's plan, its own members and how many turns it makes.
@@ -27,7 +27,7 @@ from_turn c t patience clock heard = doings_from c.plan c.me t (c.turns - t) pat
 abbrev pub from_planned : Course → (t patience : ℕ) → List ScriptEvent → List ℕ → List Heard → List Doing
 from_planned c t patience events clock heard = map does events ++ from_turn c (t + 1) patience clock heard
 
--- In turn t, where these members have yet to ask.
+-- In turn t, where these members have yet to ask, one receive after another.
 abbrev pub from_asking : Course → (t patience : ℕ) → List ℕ → List ℕ → List Heard → List Doing
 from_asking c t patience ids clock heard =
     let a = asking patience (zip ids (take (length ids) heard)) in
@@ -37,7 +37,7 @@ from_asking c t patience ids clock heard =
 -- In turn t of this moment, where these members have yet to take a tick.
 abbrev pub from_ticks : Course → (t patience moment : ℕ) → List ℕ → List ℕ → List Heard → List Doing
 from_ticks c t patience moment ids clock heard =
-    map (λ id. does (Tick id moment)) ids ++ from_asking c t patience c.me clock heard
+    map (λ id. does (Tick id moment)) ids ++ from_asking c t patience (receiving c.me) clock heard
 
 -- A turn begins with its moment's ticks.
 abbrev pub TurnsBeginWithTicks : Type 0
@@ -75,17 +75,17 @@ abbrev pub clock_on : Course → List ℕ → List ℕ
 clock_on c clock = replicate (c.turns - length clock) 0
 
 abbrev pub heard_on : Course → List Heard → List Heard
-heard_on c heard = replicate (c.turns * length c.me - length heard) silence
+heard_on c heard = replicate (c.turns * length (receiving c.me) - length heard) silence
 
 -- With these all turns have moments and answers, and no more fails.
 pub record GoesOn (c : Course) (patience : ℕ) (clock : List ℕ) (heard : List Heard) : Type 0 where
   pub moments : length (clock ++ clock_on c clock) ≡ c.turns
-  pub answers : length (heard ++ heard_on c heard) ≡ c.turns * length c.me
+  pub answers : length (heard ++ heard_on c heard) ≡ c.turns * length (receiving c.me)
   pub borne : failures (heard ++ heard_on c heard) ≤ patience
 
 abbrev pub StoppedGoesOn : Type 0
 StoppedGoesOn = (c : Course) (patience : ℕ) (clock : List ℕ) (heard : List Heard) → length clock ≤ c.turns →
-    length heard ≤ c.turns * length c.me → failures heard ≤ patience → GoesOn c patience clock heard
+    length heard ≤ c.turns * length (receiving c.me) → failures heard ≤ patience → GoesOn c patience clock heard
 
 -- The plan's lines come in the order of their turns.
 abbrev pub AreOrdered : ℕ → List (ℕ × ScriptEvent) → Type 0

@@ -6,6 +6,7 @@ use Rattle.std.specs.Prelude.{Result, Ok, Err}
 use Rattle.layer_mean.specs.Tree.{LayerTree}
 use Rattle.script_mean.specs.declared.event.ScriptEvent.{ScriptEvent}
 use Rattle.stack_mean.specs.Plan.{Plan}
+use Rattle.group_mean.specs.Node.{receiving}
 use Rattle.node_laws.specs.Doings.{doings_from}
 use Rattle.node_laws.specs.Stages.{Course, from_turn}
 use Rattle.node_loop.specs.Course.{Asked, Begun, Hears, Made, MadeAll, Now, SoFar, nothing_left}
@@ -31,9 +32,9 @@ module _ (stack : List LayerTree) (plans : List Plan) (c : Course) where
     pub passed : AllByRecursion (λ entry. entry.0 < t) (take p.next c.plan.turns)
     pub due : AllByRecursion (λ entry. t ≤ entry.0) (drop p.next c.plan.turns)
     pub within : p.next ≤ length c.plan.turns
-    pub few : at.desk.events ≤ 64 * t + p.next
+    pub few : at.desk.events ≤ 1024 * t + p.next
     pub told : (b : Begun) → b.patience ≡ patience → SoFar stack plans c b 0 0 (from_turn c 0 patience) 0 start →
-        Asked stack plans c b t (t * length c.me) (from_turn c t) p.patience at
+        Asked stack plans c b t (t * length (receiving c.me)) (from_turn c t) p.patience at
 
   pub none_so : (patience : ℕ) (start : Now) (listening : ℕ → Option ℕ) (p : Progress) → p.patience ≡ patience →
       p.next ≡ 0 →
@@ -49,9 +50,9 @@ module _ (stack : List LayerTree) (plans : List Plan) (c : Course) where
     told = λ b same so. record {
       borne = 0;
       sum = omega (arith, left, same);
-      so = subst (λ left. SoFar stack plans c b 0 (0 * length c.me) (from_turn c 0 left) 0 start) (sym left)
+      so = subst (λ left. SoFar stack plans c b 0 (0 * length (receiving c.me)) (from_turn c 0 left) 0 start) (sym left)
           (subst (λ n. SoFar stack plans c b 0 n (from_turn c 0 patience) 0 start)
-          (let e : 0 ≡ 0 * length c.me = omega arith in e) so);
+          (let e : 0 ≡ 0 * length (receiving c.me) = omega arith in e) so);
     };
   }
 
@@ -60,15 +61,15 @@ module _ (stack : List LayerTree) (plans : List Plan) (c : Course) where
       (so : TurnsSo patience start listening t p at now_listen) where
     abbrev Turns : (r : Result (Unit {0}) NodeError) → Type 0
     Turns r = (b : Begun) (borne : ℕ) → borne + p.patience ≡ b.patience →
-        SoFar stack plans c b t (t * length c.me) (from_turn c t p.patience) borne at →
-        Hears stack plans c b (t + 1) (t * length c.me) ((t + 1) * length c.me) (from_turn c (t + 1)) p'.patience at' r
+        SoFar stack plans c b t (t * length (receiving c.me)) (from_turn c t p.patience) borne at →
+        Hears stack plans c b (t + 1) (t * length (receiving c.me)) ((t + 1) * length (receiving c.me)) (from_turn c (t + 1)) p'.patience at' r
 
     -- One more was.
     pub turn_so : Turns (Ok tt) → RestsAgain stack plans at.group at.desk at'.group at'.desk →
         AllByRecursion (λ entry. entry.0 < t + 1) (take p'.next c.plan.turns) →
         AllByRecursion (λ entry. t + 1 ≤ entry.0) (drop p'.next c.plan.turns) →
         p'.next ≤ length c.plan.turns →
-        at'.desk.events ≤ 64 * (t + 1) + p'.next → ((m : ℕ) → then_listen m ≡ now_listen m) →
+        at'.desk.events ≤ 1024 * (t + 1) + p'.next → ((m : ℕ) → then_listen m ≡ now_listen m) →
         TurnsSo patience start listening (t + 1) p' at' then_listen
     turn_so hears rests passed due within few still = record {
       up = up_on stack plans at.group at'.group at.desk at'.desk now_listen then_listen c.me so.up rests still;
@@ -86,7 +87,7 @@ module _ (stack : List LayerTree) (plans : List Plan) (c : Course) where
     turn_not Link lt hears b same begun =
         let asked = so.told b same begun in
         let deaf = hears b asked.borne asked.sum asked.so in
-        let product : (t + 1) * length c.me ≡ t * length c.me + length c.me = omega arith in record {
+        let product : (t + 1) * length (receiving c.me) ≡ t * length (receiving c.me) + length (receiving c.me) = omega arith in record {
           moments = t + 1;
           answers = deaf.answers;
           turns = omega (arith, lt);
@@ -107,7 +108,7 @@ module _ (stack : List LayerTree) (plans : List Plan) (c : Course) where
       let over : c.turns - t ≡ 0 = omega (arith, all) in record {
         borne = asked.borne;
         few = (let n = asked.sum in omega (arith, n));
-        so = subst (λ n. SoFar stack plans c b n (n * length c.me) nothing_left asked.borne at) all
-            (otherwise stack plans c b t (t * length c.me) asked.borne (from_turn c t p.patience) nothing_left at
+        so = subst (λ n. SoFar stack plans c b n (n * length (receiving c.me)) nothing_left asked.borne at) all
+            (otherwise stack plans c b t (t * length (receiving c.me)) asked.borne (from_turn c t p.patience) nothing_left at
             (λ later more. ap (λ n. doings_from c.plan c.me t n p.patience later more) over) asked.so);
       }

@@ -276,6 +276,13 @@ module _ (stack : List LayerTree) (plans : List Plan) where
       Hears stack plans c b moments answers (answers + length me) (λ left. from_asking c t left []) after
       (now g' d' a' clock) r
 
+  -- The members that asked may be said otherwise.
+  pub all_asked : (asking others : List ℕ) (before after : ℕ) (g g' : Peopled) (d d' : NodeDesk) (a a' : Around)
+      (r : Result (Unit {0}) NodeError) → asking ≡ others → AskedAll asking before after g g' d d' a a' r →
+      AskedAll others before after g g' d d' a a' r
+  all_asked asking others before after g g' d d' a a' r is told =
+      subst (λ ids. AskedAll ids before after g g' d d' a a' r) is told
+
   -- An end comes within more answers, too.
   pub wider : (c : Course) (b : Begun) (m least most least' most' after after' : ℕ)
       (rest rest' : ℕ → List ℕ → List Heard → List Doing) (at : Now) (e : NodeError) →

@@ -8,6 +8,7 @@ pub mod Ids
 pub mod Listens
 pub mod Passing
 pub mod Planning
+pub mod Quiet
 pub mod Resting
 pub mod Rounds
 pub mod Served

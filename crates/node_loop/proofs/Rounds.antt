@@ -14,6 +14,7 @@ use Rattle.stack_mean.specs.Plan.{Plan}
 use Rattle.script_mean.specs.declared.event.ScriptEvent.TheVariants.{Tick}
 use Rattle.run_mean.specs.Journal.{Heard, planned_events}
 use Rattle.group_feed.specs.Standing.{Peopled}
+use Rattle.group_mean.specs.Node.{receiving}
 use Rattle.node_laws.specs.Doings.{Doing, asking, does, doings_from, doings_of, while_patient}
 use Rattle.node_laws.specs.Stages.{Course, from_asking, from_planned, from_ticks, from_turn, planned_in}
 use Rattle.node_laws.proofs.Stages.{planned_is_left}
@@ -22,7 +23,9 @@ use Rattle.node_loop.specs.Causes.{unwritten}
 use Rattle.node_loop.specs.Course.{Advances, Begun, Hears, Now, SoFar, Within, now}
 use Rattle.node_loop.specs.declared.desk.NodeDesk.{NodeDesk}
 use Rattle.node_loop.specs.declared.error.NodeError.{NodeError}
+use Rattle.node_loop.specs.Quiet.{Rested}
 use Rattle.node_loop.proofs.Asking.{AskedAll, asked_on, cut_short, wider}
+use Rattle.node_loop.proofs.Steps.{cut_stopped, quiet_so}
 
 -- A clock told one more moment.
 
@@ -109,23 +112,23 @@ module _ (stack : List LayerTree) (plans : List Plan) (c : Course) (b : Begun) w
         let one : c.turns - t ≡ suc (c.turns - (t + 1)) = omega (arith, lt) in
         ap (λ k. doings_from c.plan c.me t k patience (moment ∷ later) more) one
         ∙ append_assoc (map (λ id. does (Tick id moment)) c.me)
-        (asking patience (zip c.me (take (length c.me) more))).doings
-        (while_patient (asking patience (zip c.me (take (length c.me) more))).patience
-        (λ left. from_planned c t left (planned_events c.plan c.me t) later (drop (length c.me) more)))
+        (asking patience (zip (receiving c.me) (take (length (receiving c.me)) more))).doings
+        (while_patient (asking patience (zip (receiving c.me) (take (length (receiving c.me)) more))).patience
+        (λ left. from_planned c t left (planned_events c.plan c.me t) later (drop (length (receiving c.me)) more)))
 
-    within_ticks : (borne patience : ℕ) → borne + patience ≡ b.patience → Within c b (t + 1) (t * length c.me) borne
+    within_ticks : (borne patience : ℕ) → borne + patience ≡ b.patience → Within c b (t + 1) (t * length (receiving c.me)) borne
     within_ticks borne patience sum = record {
       turns = omega (arith, lt);
-      all = fewer (length c.me) t c.turns (omega (arith, lt));
+      all = fewer (length (receiving c.me)) t c.turns (omega (arith, lt));
       patient = omega (arith, sum);
     }
 
     within_asks : (borne patience : ℕ) → borne + patience ≡ b.patience →
-        Within c b (t + 1) (t * length c.me + length c.me) borne
+        Within c b (t + 1) (t * length (receiving c.me) + length (receiving c.me)) borne
     within_asks borne patience sum = record {
       turns = omega (arith, lt);
-      all = subst (λ n. n ≤ c.turns * length c.me) (sym (one_more (length c.me) t))
-          (fewer (length c.me) (t + 1) c.turns (omega (arith, lt)));
+      all = subst (λ n. n ≤ c.turns * length (receiving c.me)) (sym (one_more (length (receiving c.me)) t))
+          (fewer (length (receiving c.me)) (t + 1) c.turns (omega (arith, lt)));
       patient = omega (arith, sum);
     }
 
@@ -140,57 +143,72 @@ module _ (stack : List LayerTree) (plans : List Plan) (c : Course) (b : Begun) w
     module _ (patience borne moment : ℕ) (sum : borne + patience ≡ b.patience) (g g' : Peopled) (d d' : NodeDesk)
         (a a' : Around) (clock clock' : Option (List ℕ))
         (moment_is : IfSome clock (λ moments. moment ≡ next_moment moments)) (kept : clock' ≡ option_map (drop 1) clock)
-        (so : SoFar stack plans c b t (t * length c.me) (from_turn c t patience) borne (now g d a clock)) where
+        (so : SoFar stack plans c b t (t * length (receiving c.me)) (from_turn c t patience) borne (now g d a clock)) where
       ticks : (r : Result (Unit {0}) SinkError) → TickedOn moment patience g g' d d' a a' r →
-          Advances stack plans c b (t + 1) (t * length c.me) (from_ticks c t patience moment []) borne
+          Advances stack plans c b (t + 1) (t * length (receiving c.me)) (from_ticks c t patience moment []) borne
           (now g' d' a' clock') r
       ticks r told =
-          told (t + 1) (t * length c.me) borne clock' (within_ticks borne patience sum)
-          (moment_so t (t * length c.me) borne (from_turn c t patience) (from_ticks c t patience moment c.me) moment g d
+          told (t + 1) (t * length (receiving c.me)) borne clock' (within_ticks borne patience sum)
+          (moment_so t (t * length (receiving c.me)) borne (from_turn c t patience) (from_ticks c t patience moment c.me) moment g d
           a clock clock'
           (begins patience moment) moment_is kept so)
 
       pub ticks_end : (left : ℕ) (e : SinkError) → TickedOn moment patience g g' d d' a a' (Err e) →
-          Hears stack plans c b (t + 1) (t * length c.me) ((t + 1) * length c.me) (from_turn c (t + 1)) left
+          Hears stack plans c b (t + 1) (t * length (receiving c.me)) ((t + 1) * length (receiving c.me)) (from_turn c (t + 1)) left
           (now g' d' a' clock') (Err (unwritten e))
       ticks_end left e told =
-          ends_short (t + 1) (t * length c.me) borne (t * length c.me) ((t + 1) * length c.me) left
+          ends_short (t + 1) (t * length (receiving c.me)) borne (t * length (receiving c.me)) ((t + 1) * length (receiving c.me)) left
           (from_ticks c t patience moment []) (from_turn c (t + 1))
           (now g' d' a' clock') e (ticks (Err e) told)
 
       module _ (ticked : TickedOn moment patience g g' d d' a a' (Ok tt)) (left : ℕ) (g'' : Peopled) (d'' : NodeDesk)
           (a'' : Around) where
-        asks : (r : Result (Unit {0}) NodeError) → AskedAll stack plans c.me patience left g' g'' d' d'' a' a'' r →
-            Hears stack plans c b (t + 1) (t * length c.me) (t * length c.me + length c.me)
+        asks : (r : Result (Unit {0}) NodeError) → AskedAll stack plans (receiving c.me) patience left g' g'' d' d'' a' a'' r →
+            Hears stack plans c b (t + 1) (t * length (receiving c.me)) (t * length (receiving c.me) + length (receiving c.me))
             (λ left. from_asking c t left []) left (now g'' d'' a'' clock') r
-        asks r told = told c b (t + 1) (t * length c.me) t borne clock' sum (within_asks borne patience sum)
+        asks r told = told c b (t + 1) (t * length (receiving c.me)) t borne clock' sum (within_asks borne patience sum)
             (ticks (Ok tt) ticked)
 
-        pub asks_end : (e : NodeError) → AskedAll stack plans c.me patience left g' g'' d' d'' a' a'' (Err e) →
-            Hears stack plans c b (t + 1) (t * length c.me) ((t + 1) * length c.me) (from_turn c (t + 1)) left
+        pub asks_end : (e : NodeError) → AskedAll stack plans (receiving c.me) patience left g' g'' d' d'' a' a'' (Err e) →
+            Hears stack plans c b (t + 1) (t * length (receiving c.me)) ((t + 1) * length (receiving c.me)) (from_turn c (t + 1)) left
             (now g'' d'' a'' clock') (Err e)
         asks_end e told =
-            let same = one_more (length c.me) t in
-            wider stack plans c b (t + 1) (t * length c.me) (t * length c.me + length c.me) (t * length c.me)
-            ((t + 1) * length c.me) left left
+            let same = one_more (length (receiving c.me)) t in
+            wider stack plans c b (t + 1) (t * length (receiving c.me)) (t * length (receiving c.me) + length (receiving c.me)) (t * length (receiving c.me))
+            ((t + 1) * length (receiving c.me)) left left
             (λ left. from_asking c t left []) (from_turn c (t + 1)) (now g'' d'' a'' clock') e (omega arith)
             (omega (arith, same)) (asks (Err e) told)
 
+        -- What was put couldn't be handed on.
+        pub rest_end : AskedAll stack plans (receiving c.me) patience left g' g'' d' d'' a' a'' (Ok tt) →
+            (mid : Around) (left' : ℕ) (e : SinkError) → Rested a'' mid (Err e) →
+            Hears stack plans c b (t + 1) (t * length (receiving c.me)) ((t + 1) * length (receiving c.me))
+            (from_turn c (t + 1)) left' (now g'' d'' mid clock') (Err (unwritten e))
+        rest_end asked mid left' sink.Failed stopped =
+            let here = asks (Ok tt) asked in
+            cut_stopped stack plans c b (t + 1) (t * length (receiving c.me) + length (receiving c.me)) here.borne
+            (from_asking c t left []) (now g'' d'' a'' clock') (within_asks here.borne left here.sum) here.so mid stopped
+        rest_end asked mid left' sink.Memory none = absurd none
+
         pub turn_end : (next : ℕ) → AllByRecursion (λ entry. entry.0 < t) (take next c.plan.turns) →
-            AskedAll stack plans c.me patience left g' g'' d' d'' a' a'' (Ok tt) →
+            AskedAll stack plans (receiving c.me) patience left g' g'' d' d'' a' a'' (Ok tt) →
+            (mid : Around) → Rested a'' mid (Ok tt) →
             (g3 : Peopled) (d3 : NodeDesk) (a3 : Around) (r : Result (Unit {0}) SinkError) →
             ((moments answers borne : ℕ) (clock : Option (List ℕ)) → Within c b moments answers borne →
             SoFar stack plans c b moments answers (from_planned c t left (planned_in c.me t (drop next c.plan.turns)))
-            borne (now g'' d'' a'' clock) →
+            borne (now g'' d'' mid clock) →
             Advances stack plans c b moments answers (from_turn c (t + 1) left) borne (now g3 d3 a3 clock) r) →
-            Hears stack plans c b (t + 1) (t * length c.me) ((t + 1) * length c.me) (from_turn c (t + 1)) left
-            (now g3 d3 a3 clock') (cut_short r)
-        turn_end next passed asked g3 d3 a3 r planned =
+            Hears stack plans c b (t + 1) (t * length (receiving c.me)) ((t + 1) * length (receiving c.me))
+            (from_turn c (t + 1)) left (now g3 d3 a3 clock') (cut_short r)
+        turn_end next passed asked mid rested g3 d3 a3 r planned =
             let here = asks (Ok tt) asked in
-            asked_on stack plans c b (t + 1) (t * length c.me + length c.me) here.borne left (from_turn c (t + 1))
-            (t * length c.me) ((t + 1) * length c.me)
-            g3 d3 a3 clock' r (one_more (length c.me) t) here.sum
-            (planned (t + 1) (t * length c.me + length c.me) here.borne clock' (within_asks here.borne left here.sum)
-            (subst (λ events. SoFar stack plans c b (t + 1) (t * length c.me + length c.me)
+            let answers = t * length (receiving c.me) + length (receiving c.me) in
+            asked_on stack plans c b (t + 1) answers here.borne left (from_turn c (t + 1))
+            (t * length (receiving c.me)) ((t + 1) * length (receiving c.me))
+            g3 d3 a3 clock' r (one_more (length (receiving c.me)) t) here.sum
+            (planned (t + 1) answers here.borne clock' (within_asks here.borne left here.sum)
+            (quiet_so stack plans c b (t + 1) answers here.borne
+            (from_planned c t left (planned_in c.me t (drop next c.plan.turns))) g'' d'' a'' mid clock' rested
+            (subst (λ events. SoFar stack plans c b (t + 1) answers
             (from_planned c t left events) here.borne (now g'' d'' a'' clock'))
-            (planned_is_left c.plan c.me t next passed) here.so))
+            (planned_is_left c.plan c.me t next passed) here.so)))

@@ -18,7 +18,7 @@ use Rattle.run_mean.specs.Mode.{Mode}
 use Rattle.run_mean.specs.Journal.{failure, handed_datagrams, node_lines, node_run, note_lines}
 use Rattle.run_mean.specs.Report.{end_line, moments}
 use Rattle.run_mean.specs.World.{World, happens}
-use Rattle.group_mean.specs.Node.{node_words}
+use Rattle.group_mean.specs.Node.{node_words, receiving}
 use Rattle.group_mean.specs.Node.{NodeWords, Surroundings, failures, handed_by, node_notes, node_moments}
 use Rattle.outside.specs.Lines.{Gains, Wrote}
 use Rattle.outside.specs.Tells as output
@@ -242,7 +242,7 @@ module _ (stack : List LayerTree) (plan : NodePlan) (me : List ℕ) (turns patie
   made_all a from listened at all out put =
       let so = all.so in
       let t = turns in
-      let k = turns * length me in record {
+      let k = turns * length (receiving me) in record {
         s = s a from listened t k all.borne at so;
         moments = so.moments_are;
         answers = so.answers_are;
@@ -261,7 +261,8 @@ module _ (stack : List LayerTree) (plan : NodePlan) (me : List ℕ) (turns patie
       MadeSome stack plans course (begun from a.clock) at → WentDeaf task a (whereabouts at.around at.clock)
   went_deaf a from listened at some =
       let so = some.deaf.so in
-      let product : length so.clock * length me ≡ some.moments * length me = ap (λ n. n * length me) so.moments_are in
+      let product : length so.clock * length (receiving me) ≡ some.moments * length (receiving me) =
+      ap (λ n. n * length (receiving me)) so.moments_are in
       record {
         s = s a from listened some.moments some.answers (patience + 1) at so;
         before = some.deaf.before;

@@ -13,7 +13,7 @@ use Rattle.stack_mean.specs.Plan.{Plan}
 use Rattle.run_mean.specs.Journal.{Heard}
 use Rattle.run_mean.specs.Report.{end_line}
 use Rattle.run_mean.specs.World.{happens}
-use Rattle.group_mean.specs.Node.{failures}
+use Rattle.group_mean.specs.Node.{failures, receiving}
 use Rattle.outside.specs.Lines.{Gains, Wrote}
 use Rattle.outside.proofs.Gaining.{gains_then}
 use Rattle.group_feed.specs.Standing.{Peopled}
@@ -22,7 +22,7 @@ use Rattle.node_laws.specs.Losses.{following, deaf_line, event_lines, event_loss
 use Rattle.node_laws.specs.Losses.{sends_of, written_of}
 use Rattle.node_laws.specs.Network.{Goes, Tells, after_sends, fates_of, met_as, sent_as}
 use Rattle.node_laws.specs.Stages.{Course, clock_on, heard_on}
-use Rattle.node_laws.specs.Acts.{Act, puts, acts_of, event_acts, sends_in}
+use Rattle.node_laws.specs.Acts.{Act, puts, acts_of, event_acts, lines_in, sends_in}
 use Rattle.node_laws.proofs.Acts.{acts_append, acts_lines_are, acts_sends_are, event_lines_are, event_sends_are}
 use Rattle.node_laws.proofs.Acts.{sends_append}
 use Rattle.node_laws.proofs.Fans.{event_losses_are}
@@ -31,9 +31,11 @@ use Rattle.node_laws.proofs.Parts.{heard_append, lost_append, lost_none, written
 use Rattle.node_laws.proofs.Sendings.{tells_as, tells_same, tells_then}
 use Rattle.node_loop.specs.Around.{Around, count_on}
 use Rattle.node_loop.specs.Passing.{Breaks, Stops, Takes, WentOn}
+use Rattle.node_loop.specs.Quiet.{Quietly, Stopped}
 use Rattle.node_loop.specs.Feeding.{Feeds, IsFed}
 use Rattle.node_loop.specs.Course.{Advances, Begun, CutOff, Now, SoFar, Within, now}
 use Rattle.node_loop.specs.declared.desk.NodeDesk.{NodeDesk}
+use Rattle.node_loop.proofs.Quiet.{first_put}
 use Rattle.node_loop.proofs.Passing.{asked_nothing, count_on_add, line_stops, memory_stops, stops_longer, stops_then}
 
 pub failures_append : (xs ys : List Heard) → failures (xs ++ ys) ≡ failures xs + failures ys
@@ -247,6 +249,32 @@ module _ (stack : List LayerTree) (plans : List Plan) (c : Course) (b : Begun) w
         clock_told = so.clock_told;
       }
 
+  -- nothing was done that is told
+  pub quiet_so : (m k borne : ℕ) (rest : List ℕ → List Heard → List Doing) (g : Peopled) (d : NodeDesk)
+      (a a' : Around) (clk : Option (List ℕ)) → Quietly a a' → So m k rest borne (now g d a clk) →
+      So m k rest borne (now g d a' clk)
+  quiet_so m k borne rest g d a a' clk q so = record {
+    clock = so.clock;
+    heard = so.heard;
+    done = so.done;
+    failed = so.failed;
+    world = so.world;
+    goes = so.goes;
+    moments_are = so.moments_are;
+    answers_are = so.answers_are;
+    asked = so.asked;
+    borne_are = so.borne_are;
+    world_is = so.world_is;
+    rests = so.rests;
+    each = so.each;
+    counted = so.counted;
+    gained = gains_then b.around.output a.output a'.output _ _ _ so.gained q.unwritten (sym (append-nil _));
+    faults = q.unasked.faults ∙ so.faults;
+    sends = q.unasked.sends ∙ so.sends;
+    told = subst (Tells (Goes b.mode stack plans b.first so.done so.failed) b.around.told) (sym q.unasked.told) so.told;
+    clock_told = so.clock_told;
+  }
+
   -- A node that stops here could have gone on: after what was done come the first of some acts of what is left.
   module _ (m k borne : ℕ) (rest : List ℕ → List Heard → List Doing) (at : Now) (within : Within c b m k borne)
       (so : So m k rest borne at) where
@@ -262,14 +290,19 @@ module _ (stack : List LayerTree) (plans : List Plan) (c : Course) (b : Begun) w
     abbrev front : List Act
     front = acts_of b.mode stack plans b.first so.done so.failed
 
+    -- The lines of what was done were put.
+    gained_acts : Gains b.around.output at.around.output (lines_in front)
+    gained_acts = subst (Gains b.around.output at.around.output)
+        (sym (acts_lines_are b.mode stack plans b.first so.done so.failed)) so.gained
+
     -- The acts of what is left begin with those that were done, given which of their sendings failed, event by event.
-    pub cut : (flags : List (List Bool)) (done after_them : List Act) (a' : Around) (e : SinkError) →
+    cut_by : (flags : List (List Bool)) (done after_them : List Act) (a' : Around) (e : SinkError) →
         acts_of b.mode stack plans so.world left flags ≡ done ++ after_them →
-        Stops e done after_them at.around.output a'.output →
+        Stops e (front ++ done) (after_them ++ last) b.around.output a'.output →
         a'.faults ≡ at.around.faults →
         a'.sends ≡ count_on at.around.sends (length (lost_of stack plans so.world left flags)) →
         Tells (WentOn [] (sends_in done) []) at.around.told a'.told → CutOff stack plans c b e a' at.clock
-    cut flags done after_them a' e are stopped faults sendings told =
+    cut_by flags done after_them a' e are stopped faults sendings told =
         let w = b.first in
         let f = so.failed ++ flags in
         let acts : acts_of b.mode stack plans w all f ≡ front ++ (done ++ after_them) =
@@ -281,8 +314,6 @@ module _ (stack : List LayerTree) (plans : List Plan) (c : Course) (b : Begun) w
         ap length (lost_append stack plans w so.done left so.failed flags so.each
         ∙ ap (λ v. lost_of stack plans w so.done so.failed ++ lost_of stack plans v left flags) (sym so.world_is))
         ∙ length-append (lost_of stack plans w so.done so.failed) (lost_of stack plans so.world left flags) in
-        let gained = subst (Gains b.around.output at.around.output)
-        (sym (acts_lines_are b.mode stack plans w so.done so.failed)) so.gained in
         let handed : sends_in (front ++ done) ≡ sends_of b.mode stack plans w so.done ++ sends_in done =
         sends_append front done ∙ ap (λ hs. hs ++ sends_in done) (acts_sends_are b.mode stack plans w so.done so.failed)
         in record {
@@ -292,15 +323,14 @@ module _ (stack : List LayerTree) (plans : List Plan) (c : Course) (b : Begun) w
           done = front ++ done;
           rest = after_them ++ last;
           turns = (let n = so.moments_are in let l = within.turns in omega (arith, n, l));
-          answers = subst (λ n. n ≤ c.turns * length c.me) (sym so.answers_are) within.all;
+          answers = subst (λ n. n ≤ c.turns * length (receiving c.me)) (sym so.answers_are) within.all;
           borne = (let n = so.borne_are in let l = within.patient in omega (arith, n, l));
           doings = all;
           doings_are = sym (so.goes (clock_on c so.clock) (heard_on c so.heard));
           are = ap (λ acts. acts ++ last) acts ∙ append_assoc front (done ++ after_them) last
               ∙ ap (λ acts. front ++ acts) (append_assoc done after_them last) ∙
               sym (append_assoc front done (after_them ++ last));
-          stopped = stops_longer b.around.output a'.output (front ++ done) after_them last e
-              (stops_then b.around.output at.around.output a'.output front done after_them e gained stopped);
+          stopped = stopped;
           faults = faults ∙ so.faults ∙ ap (count_on b.around.faults) (sym so.borne_are);
           sends = sendings ∙ ap (λ n. count_on n (length (lost_of stack plans so.world left flags))) so.sends
               ∙ sym (count_on_add b.around.sends (length (lost_of stack plans w so.done so.failed))
@@ -324,6 +354,37 @@ module _ (stack : List LayerTree) (plans : List Plan) (c : Course) (b : Begun) w
           });
           clock_told = so.clock_told;
         }
+
+    -- The acts that were done are the first of those of what is left.
+    pub cut : (flags : List (List Bool)) (done after_them : List Act) (a' : Around) (e : SinkError) →
+        acts_of b.mode stack plans so.world left flags ≡ done ++ after_them →
+        Stops e done after_them at.around.output a'.output →
+        a'.faults ≡ at.around.faults →
+        a'.sends ≡ count_on at.around.sends (length (lost_of stack plans so.world left flags)) →
+        Tells (WentOn [] (sends_in done) []) at.around.told a'.told → CutOff stack plans c b e a' at.clock
+    cut flags done after_them a' e are stopped faults sendings told =
+        cut_by flags done after_them a' e are
+        (stops_longer b.around.output a'.output (front ++ done) after_them last e
+        (stops_then b.around.output at.around.output a'.output front done after_them e gained_acts stopped))
+        faults sendings told
+
+    -- Where what was put couldn't be handed on between two things.
+    pub cut_stopped : (a' : Around) → Stopped at.around a' → CutOff stack plans c b sink.Failed a' at.clock
+    cut_stopped a' s =
+        let following = first_put stack plans b.mode so.world left [] (end_line (length (events_of all))) in
+        cut_by [] [] (acts_of b.mode stack plans so.world left []) a' sink.Failed refl
+        (record {
+          line = following.0;
+          more = following.1;
+          next = following.2;
+          mid = at.around.output;
+          put = subst (λ acts. Gains b.around.output at.around.output (lines_in acts)) (sym (append-nil front))
+              gained_acts;
+          fails = s.fails following.0;
+        }) s.unasked.faults
+        (s.unasked.sends ∙ ap (λ ls. count_on at.around.sends (length ls)) (sym (lost_none stack plans so.world left)))
+        (subst (Tells (WentOn [] [] []) at.around.told) (sym s.unasked.told)
+        (tells_same (WentOn [] [] []) at.around.told asked_nothing))
 
     -- Where memory ran out between two things.
     pub cut_none : (a' : Around) → a' ≡ at.around → CutOff stack plans c b sink.Memory a' at.clock

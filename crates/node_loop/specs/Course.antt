@@ -11,7 +11,7 @@ use Rattle.script_mean.specs.declared.event.ScriptEvent.{ScriptEvent}
 use Rattle.run_mean.specs.Journal.{Heard, failure}
 use Rattle.run_mean.specs.Report.{end_line}
 use Rattle.run_mean.specs.World.{World}
-use Rattle.group_mean.specs.Node.{failures}
+use Rattle.group_mean.specs.Node.{failures, receiving}
 use Rattle.outside.specs.Lines.{Gains}
 use Rattle.group_feed.specs.Standing.{Peopled}
 use Rattle.node_laws.specs.Acts.{Act, puts, acts_of, sends_in}
@@ -75,7 +75,7 @@ pub record SoFar (stack : List LayerTree) (plans : List Plan) (c : Course) (b : 
 -- No more moments and answers than in all turns, and no more failures than are borne.
 pub record Within (c : Course) (b : Begun) (moments answers borne : ℕ) : Type 0 where
   pub turns : moments ≤ c.turns
-  pub all : answers ≤ c.turns * length c.me
+  pub all : answers ≤ c.turns * length (receiving c.me)
   pub patient : borne ≤ b.patience
 
 -- A node was broken off: it was told these moments and answers, and the acts that it did are the first of those that it
@@ -89,7 +89,7 @@ pub record CutOff (stack : List LayerTree) (plans : List Plan) (c : Course) (b :
   pub done : List Act
   pub rest : List Act
   pub turns : length clock ≤ c.turns
-  pub answers : length heard ≤ c.turns * length c.me
+  pub answers : length heard ≤ c.turns * length (receiving c.me)
   pub borne : failures heard ≤ b.patience
   pub doings : List Doing
   pub doings_are : doings ≡ doings_of c.plan c.me c.turns b.patience (clock ++ clock_on c clock)
@@ -171,15 +171,15 @@ course_of c = record { plan = c.plan.now; me = c.me.now; turns = c.turns }
 pub record MadeAll (stack : List LayerTree) (plans : List Plan) (c : Course) (b : Begun) (at : Now) : Type 0 where
   pub borne : ℕ
   pub few : borne ≤ b.patience
-  pub so : SoFar stack plans c b c.turns (c.turns * length c.me) nothing_left borne at
+  pub so : SoFar stack plans c b c.turns (c.turns * length (receiving c.me)) nothing_left borne at
 
 -- The node went deaf: the failure that isn't borne came in the turn of the last moment.
 pub record MadeSome (stack : List LayerTree) (plans : List Plan) (c : Course) (b : Begun) (at : Now) : Type 0 where
   pub moments : ℕ
   pub answers : ℕ
   pub turns : moments ≤ c.turns
-  pub within : answers ≤ moments * length c.me
-  pub begun : moments * length c.me < answers + length c.me
+  pub within : answers ≤ moments * length (receiving c.me)
+  pub begun : moments * length (receiving c.me) < answers + length (receiving c.me)
   pub deaf : DeafAt stack plans c b moments answers at
 
 -- All turns were made, or the node went deaf in one of them, or it was broken off.

@@ -1,5 +1,6 @@
 pub mod Around
 pub mod Passing
+pub mod Quiet
 pub mod Sending
 pub mod Feeding
 pub mod Bearing

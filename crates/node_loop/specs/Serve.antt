@@ -12,6 +12,7 @@ use Rattle.stack_mean.specs.Plans.{plans_of}
 use Rattle.run_mean.specs.Journal.{Heard, failure, Handed, note_lines, node_lines}
 use Rattle.run_mean.specs.World.{World, first_world}
 use Rattle.group_mean.specs.Node.{Surroundings, NodeWords, failed_sends, failures, node_notes, node_moments, handed_by}
+use Rattle.group_mean.specs.Node.{receiving}
 use Rattle.run_mean.specs.Report.{end_line}
 use Rattle.outside.specs.Lines.{Gains, Wrote}
 use Rattle.outside.specs.Tells as sink_lines
@@ -80,12 +81,12 @@ pub record IsTold (task : Task) (s : Surroundings) (a b : Whereabouts) (OverNetw
   pub clock : Told a.clock b.clock s.clock
   pub network : Tells OverNetwork a.around.told b.around.told
 
--- All turns were made: each had a moment, and an answer for each own member, of which no more failed than are borne.
+-- All turns were made: each had a moment, and an answer for each receive, of which no more failed than are borne.
 -- What was written and what was handed to the network are those of the journal.
 pub record MadeAllTurns (task : Task) (a b : Whereabouts) : Type 0 where
   pub s : Surroundings
   pub moments : length s.clock ≡ task.words.turns
-  pub answers : length s.heard ≡ task.words.turns * length task.words.me
+  pub answers : length s.heard ≡ task.words.turns * length (receiving task.words.me)
   pub borne : failures s.heard ≤ task.words.patience
   pub written : Gains a.around.output b.around.output
       (node_lines task.stack (plans_of task.stack) (failed_sends s) (node_notes task.plan task.words s)
@@ -115,8 +116,8 @@ pub record WentDeaf (task : Task) (a b : Whereabouts) : Type 0 where
   pub last : s.heard ≡ before ++ failure ∷ []
   pub borne : failures before ≡ task.words.patience
   pub turns : length s.clock ≤ task.words.turns
-  pub within : length s.heard ≤ length s.clock * length task.words.me
-  pub begun : length s.clock * length task.words.me < length s.heard + length task.words.me
+  pub within : length s.heard ≤ length s.clock * length (receiving task.words.me)
+  pub begun : length s.clock * length (receiving task.words.me) < length s.heard + length (receiving task.words.me)
   pub written : Gains a.around.output b.around.output
       (note_lines task.stack (plans_of task.stack) (failed_sends s) (node_notes task.plan task.words s)
       (node_moments task.stack task.plan task.words s))
@@ -157,7 +158,7 @@ pub record BrokenOff (task : Task) (e : SinkError) (a b : Whereabouts) : Type 0 
   pub heard_on : List Heard
   pub sent_on : List Handed
   pub moments : length (s.clock ++ clock_on) ≡ task.words.turns
-  pub answers : length (s.heard ++ heard_on) ≡ task.words.turns * length task.words.me
+  pub answers : length (s.heard ++ heard_on) ≡ task.words.turns * length (receiving task.words.me)
   pub borne : failures (s.heard ++ heard_on) ≤ task.words.patience
   pub handed_on : sent ++ sent_on ≡ handed_by task.stack task.plan task.words (told_on s clock_on heard_on)
   pub written : Wrote

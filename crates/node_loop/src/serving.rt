@@ -2,7 +2,7 @@
 
 ghost use Rattle.std.specs.Prelude.{◌≡◌, ◌<◌, ◌≤◌, ℕ, Some, IfOk, OnOk, length};
 ghost use Rattle.std.specs.List.{AllByRecursion};
-ghost use Rattle.group_mean.specs.Node.{node_words};
+ghost use Rattle.group_mean.specs.Node.{node_words, receiving, rounds_of};
 ghost use Rattle.stack_mean.specs.Acceptance.{largest_weight};
 ghost use Rattle.stack_mean.specs.Plans.{plans_of};
 ghost use Rattle.chain_laws.specs.Runs.{TypedStack};
@@ -22,9 +22,10 @@ use crate::error::NodeError;
 use crate::tools::Tools;
 use crate::turns::turn;
 use group_feed::Feed;
+use live_outside::{LiveLinks, LiveSink};
 use msg_core::Memory;
 use node_laws::law_stopped_goes_on;
-use outside::{Clock, LONGEST_DATAGRAM, Links, Peer, Sink};
+use outside::{Clock, LONGEST_DATAGRAM, Links, Peer};
 use report_lines::Line;
 use report_text::{Pen, write_end};
 use stack_judge::Stack;
@@ -36,6 +37,21 @@ fn room(alloc: Global) -> Result<Vec<u8>, AllocError>
     ensures { IfOk result (λ room. length room.items ≡ LONGEST_DATAGRAM) }
 {
     vec![in alloc; 0; LONGEST_DATAGRAM]
+}
+
+/// How often each own member receives in a turn.
+const RECEIVES_A_TURN: u8 = 16;
+
+/// Which member each receive of a turn is for: in each round each own member receives once.
+#[tactic(auto, unfolding(group_mean::specs::Node::receiving))]
+fn receiving(alloc: Global, me: &[u8]) -> Result<Vec<u8>, Memory>
+    ensures { IfOk result (λ asking. asking.items ≡ receiving me.now) }
+{
+    let mut asking = Vec::new(alloc);
+    for _ in 0..RECEIVES_A_TURN {
+        asking.extend_from_slice(me)?;
+    }
+    Ok(asking)
 }
 
 /// A desk at which nothing was done.
@@ -74,9 +90,10 @@ fn listen_all<N: Links>(peers: &[Peer], me: &[u8], links: &mut N) -> Result<(), 
 }
 
 /// Makes all turns.
-fn make_turns<F: Feed, O: Sink, N: Links, C: Clock>(
+fn make_turns<F: Feed, O: LiveSink, N: LiveLinks, C: Clock>(
     feed: &mut F,
     course: Course<'_>,
+    asking: &[u8],
     desk: &mut NodeDesk,
     patience: u32,
     out: &mut O,
@@ -87,6 +104,7 @@ fn make_turns<F: Feed, O: Sink, N: Links, C: Clock>(
         course.me.now }
     requires own { AllByRecursion (λ entry. IsOwn entry.1) course.plan.now.turns }
     requires ordered { AreOrdered 0 course.plan.now.turns }
+    requires asking { asking.now ≡ receiving course.me.now }
     requires members { length course.me.now ≤ most_members }
     requires none { desk.old.events ≡ 0 }
     ensures told { (b : Begun) → b.patience ≡ patience →
@@ -104,7 +122,7 @@ fn make_turns<F: Feed, O: Sink, N: Links, C: Clock>(
     };
     for t in 0..course.turns {
         progress.turn = t;
-        turn(feed, course, desk, &mut progress, out, links, clock)?;
+        turn(feed, course, asking, desk, &mut progress, out, links, clock)?;
     }
     Ok(())
 }
@@ -114,9 +132,10 @@ fn make_turns<F: Feed, O: Sink, N: Links, C: Clock>(
 /// just after its line, as it is sent; a sending that fails is told by `lost` and the packet's number, and not made
 /// again. A receive that fails is told by `deaf` and the member; of these as many are tolerated as `patience` says.
 ///
-/// Each turn is a tick of the clock's moment at each own member, one receive of each, whose datagram is an event of
-/// that member, and then the plan's events of this turn for own members. The last line says how many events there were.
-pub fn serve<F: Feed, O: Sink, N: Links, C: Clock>(
+/// Each turn is a tick of the clock's moment at each own member, sixteen receives of each, whose datagrams are events of
+/// that member, and then the plan's events of this turn for own members. Where a turn hears nothing, what was put is
+/// handed on, and the links wait for a datagram. The last line says how many events there were.
+pub fn serve<F: Feed, O: LiveSink, N: LiveLinks, C: Clock>(
     alloc: Global,
     feed: &mut F,
     course: Course<'_>,
@@ -147,8 +166,11 @@ pub fn serve<F: Feed, O: Sink, N: Links, C: Clock>(
     law_number_fits(course.plan.group);
     law_number_fits(course.plan.stamp);
     let mut desk = desk(alloc, course.stack.stack())?;
+    let asking = receiving(alloc, course.me)?;
     listen_all(course.plan.peers.slice(), course.me, links)?;
-    make_turns(feed, course, &mut desk, patience, out, links, clock)?;
+    make_turns(
+        feed, course, &asking, &mut desk, patience, out, links, clock,
+    )?;
     let events = desk.events;
     write_end(&mut desk.tools.pen, events, out)?;
     Ok(())

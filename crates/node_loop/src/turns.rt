@@ -17,6 +17,8 @@ ghost use Rattle.node_loop.specs.Bearing.{Bears};
 ghost use Rattle.node_loop.specs.Course.{Advances, Begun, FedOn, Hears, SoFar, Within, course_of, now, plans_in};
 ghost use Rattle.node_loop.specs.Course.{stack_in};
 ghost use Rattle.node_loop.specs.Feeding.{IsOwn, IsUp, RestsAgain};
+ghost use Rattle.node_loop.specs.Quiet.{Rested};
+ghost use Rattle.group_mean.specs.Node.{receiving};
 ghost use Rattle.msg_core.specs.View.{most_members};
 
 use crate::course::{Course, Progress, law_number_fits};
@@ -24,6 +26,7 @@ use crate::desk::NodeDesk;
 use crate::error::NodeError;
 use crate::feeding::feed_on;
 use group_feed::Feed;
+use live_outside::{LiveLinks, LiveSink};
 use outside::{Clock, LONGEST_DATAGRAM, LinkError, Links, Sink, SinkError, put_line};
 use report_lines::{Line, deaf_line};
 use script_mean::{Bytes, ScriptEvent, member_of};
@@ -151,36 +154,57 @@ fn ask<F: Feed, O: Sink, N: Links>(
     }
 }
 
-/// Lets each own member ask the network.
+/// Lets these members ask the network, one receive after another.
 fn ask_all<F: Feed, O: Sink, N: Links>(
     feed: &mut F,
     course: Course<'_>,
+    asking: &[u8],
     desk: &mut NodeDesk,
     patience: &mut u32,
     out: &mut O,
     links: &mut N,
 ) -> Result<(), NodeError>
     requires up { IsUp (stack_in course) (plans_in course) (F.group feed.old) desk.old (N.listening links.old)
-        course.me.now }
-    requires few { desk.old.events + length course.me.now < 2 ^ 64 }
+        asking.now }
+    requires few { desk.old.events + length asking.now < 2 ^ 64 }
     ensures told { (c : stages.Course) (b : Begun) (moments answers t borne : ℕ) (clock : Option (List ℕ)) →
         borne + patience.old ≡ b.patience →
-        Within c b moments (answers + length course.entry.me.now) borne →
+        Within c b moments (answers + length asking.now) borne →
         SoFar (stack_in course.entry) (plans_in course.entry) c b moments answers
-        (from_asking c t patience.old course.entry.me.now) borne
+        (from_asking c t patience.old asking.now) borne
         (now (F.group feed.old) desk.old (around O.Sink N.Links out.old links.old) clock) →
-        Hears (stack_in course.entry) (plans_in course.entry) c b moments answers (answers + length course.entry.me.now)
+        Hears (stack_in course.entry) (plans_in course.entry) c b moments answers (answers + length asking.now)
         (λ left. from_asking c t left []) patience.new
         (now (F.group feed.new) desk.new (around O.Sink N.Links out.new links.new) clock) result }
     ensures rests { OnOk result
         (RestsAgain (stack_in course.entry) (plans_in course.entry) (F.group feed.old) desk.old (F.group feed.new)
         desk.new) }
-    ensures counted { OnOk result (desk.new.events ≤ desk.old.events + length course.entry.me.now) }
+    ensures counted { OnOk result (desk.new.events ≤ desk.old.events + length asking.now) }
     ensures listening { (m : ℕ) → N.listening links.new m ≡ N.listening links.old m }
 {
-    for id in course.me {
+    for id in asking {
         ask(feed, course, desk, *id, patience, out, links)?;
     }
+    Ok(())
+}
+
+/// Where nothing was heard, hands on what was put, and waits for a datagram.
+fn rest<O: LiveSink, N: LiveLinks>(
+    is_quiet: bool,
+    out: &mut O,
+    links: &mut N,
+) -> Result<(), SinkError>
+    ensures rested { Rested (around O.Sink N.Links out.old links.old) (around O.Sink N.Links out.new links.new)
+        result }
+    ensures listening { (m : ℕ) → N.listening links.new m ≡ N.listening links.old m }
+{
+    if !is_quiet {
+        return Ok(());
+    }
+    if !out.hand_on() {
+        return Err(SinkError::Failed);
+    }
+    links.wait();
     Ok(())
 }
 
@@ -261,10 +285,11 @@ fn feed_planned<F: Feed, O: Sink, N: Links>(
     Ok(())
 }
 
-/// Makes a turn: a tick at each own member, what each hears, and what is planned.
-pub(crate) fn turn<F: Feed, O: Sink, N: Links, C: Clock>(
+/// Makes a turn: a tick at each own member, what each hears, where that is nothing a rest, and what is planned.
+pub(crate) fn turn<F: Feed, O: LiveSink, N: LiveLinks, C: Clock>(
     feed: &mut F,
     course: Course<'_>,
+    asking: &[u8],
     desk: &mut NodeDesk,
     progress: &mut Progress,
     out: &mut O,
@@ -281,16 +306,17 @@ pub(crate) fn turn<F: Feed, O: Sink, N: Links, C: Clock>(
     requires within { progress.old.next ≤ length course.plan.now.turns }
     requires due { AllByRecursion (λ entry. progress.old.turn ≤ entry.0)
         (drop progress.old.next course.plan.now.turns) }
+    requires asking { asking.now ≡ receiving course.me.now }
     requires members { length course.me.now ≤ most_members }
-    requires few { desk.old.events ≤ 64 * progress.old.turn + progress.old.next }
+    requires few { desk.old.events ≤ 1024 * progress.old.turn + progress.old.next }
     ensures told { (b : Begun) (borne : ℕ) →
         borne + progress.old.patience ≡ b.patience →
         SoFar (stack_in course.entry) (plans_in course.entry) (course_of course.entry) b progress.old.turn
-        (progress.old.turn * length course.entry.me.now)
+        (progress.old.turn * length (receiving course.entry.me.now))
         (from_turn (course_of course.entry) progress.old.turn progress.old.patience) borne
         (now (F.group feed.old) desk.old (around O.Sink N.Links out.old links.old) (C.told clock.old)) →
         Hears (stack_in course.entry) (plans_in course.entry) (course_of course.entry) b (progress.old.turn + 1)
-        (progress.old.turn * length course.entry.me.now) ((progress.old.turn + 1) * length course.entry.me.now)
+        (progress.old.turn * length (receiving course.entry.me.now)) ((progress.old.turn + 1) * length (receiving course.entry.me.now))
         (from_turn (course_of course.entry) (progress.old.turn + 1)) progress.new.patience
         (now (F.group feed.new) desk.new (around O.Sink N.Links out.new links.new) (C.told clock.new)) result }
     ensures rests { OnOk result
@@ -303,7 +329,7 @@ pub(crate) fn turn<F: Feed, O: Sink, N: Links, C: Clock>(
     ensures due { OnOk result
         (AllByRecursion (λ entry. progress.old.turn + 1 ≤ entry.0)
         (drop progress.new.next course.entry.plan.now.turns)) }
-    ensures few { OnOk result (desk.new.events ≤ 64 * (progress.old.turn + 1) + progress.new.next) }
+    ensures few { OnOk result (desk.new.events ≤ 1024 * (progress.old.turn + 1) + progress.new.next) }
     ensures listening { (m : ℕ) → N.listening links.new m ≡ N.listening links.old m }
 {
     let _entries = course.plan.turns.slice();
@@ -311,7 +337,10 @@ pub(crate) fn turn<F: Feed, O: Sink, N: Links, C: Clock>(
     law_number_fits(t);
     let moment = clock.now();
     tick_all(feed, course, desk, moment, out, links)?;
-    ask_all(feed, course, desk, &mut progress.patience, out, links)?;
+    let events = desk.events;
+    let patience = &mut progress.patience;
+    ask_all(feed, course, asking, desk, patience, out, links)?;
+    rest(desk.events == events, out, links)?;
     let next = &mut progress.next;
     feed_planned(feed, course, desk, t, next, out, links)?;
     Ok(())

@@ -15,10 +15,11 @@ use Rattle.script_mean.specs.declared.script.Script.{Script}
 use Rattle.stack_mean.specs.Plans.{plans_of}
 use Rattle.run_mean.specs.Mode.{Mode}
 use Rattle.run_mean.specs.Journal.{Heard, failure, note_lines, node_lines, Handed}
-use Rattle.run_mean.specs.Report.{output_in}
+use Rattle.group_mean.specs.Told.{replay_lines}
 use Rattle.run_mean.specs.Tally.{tally, accepted_lines}
 use Rattle.miss_mean.specs.Text.{explained_lines}
 use Rattle.group_mean.specs.Node.{Surroundings, NodeWords, failed_sends, failures, node_notes, node_moments, handed_by}
+use Rattle.group_mean.specs.Node.{receiving}
 use Rattle.group_mean.specs.Room.{HasRoom}
 use Rattle.output_mean.specs.Judged.{Means}
 
@@ -29,16 +30,15 @@ pub record Checks (file out : List ℕ) : Type 0 where
   pub written : out ≡ concat (accepted_lines stack)
 
 -- `replay`: whatever stack the file means and whatever script the other bytes spell, what is written is the output of
--- the layered
--- meaning, in either mode. Without the packets' bytes and the number of visits it is the report, which knows of no
--- mode.
-pub record Replays (file script_text : List ℕ) (mode : Mode) (wire count : Bool) (out : List ℕ) : Type 0 where
+-- the layered meaning, in either mode. Without the packets' bytes and the number of visits it is the report, which
+-- knows of no mode; with the events it tells these, too.
+pub record Replays (file script_text : List ℕ) (mode : Mode) (events wire count : Bool) (out : List ℕ) : Type 0 where
   pub stack : List LayerTree
   pub means : Means file stack
   pub script : Script
   pub spelled : script_of script_text ≡ Ok script
   pub room : HasRoom stack script.members
-  pub written : out ≡ concat (output_in stack (plans_of stack) script mode wire count)
+  pub written : out ≡ concat (replay_lines stack (plans_of stack) script mode events wire count)
 
 -- `explain`: whatever stack the file means and whatever script the other bytes spell, what is written says of each step
 -- that was taken and wasn't common what it lacked, with the lines of that file.
@@ -67,13 +67,13 @@ pub record IsNode (file plan_text : List ℕ) (me : List ℕ) : Type 0 where
   pub room : HasRoom stack (length plan.peers)
 
 -- `node`: own members of the plan's group run over a network through all turns, each with a moment and an answer for
--- each own member; no more of these answers are failures than are borne. What is written and what is handed to the
--- network are those of the journal.
+-- each receive of an own member; no more of these answers are failures than are borne. What is written and what is
+-- handed to the network are those of the journal.
 pub record Serves (file plan_text : List ℕ) (words : NodeWords) (s : Surroundings) (out : List ℕ) (sent : List Handed) :
     Type 0 where
   pub node : IsNode file plan_text words.me
   pub moments : length s.clock ≡ words.turns
-  pub answers : length s.heard ≡ words.turns * length words.me
+  pub answers : length s.heard ≡ words.turns * length (receiving words.me)
   pub borne : failures s.heard ≤ words.patience
   pub written :
       out ≡ concat (node_lines node.stack (plans_of node.stack) (failed_sends s) (node_notes node.plan words s)
@@ -98,8 +98,8 @@ pub record GoesDeaf (file plan_text : List ℕ) (words : NodeWords) (s : Surroun
   pub last : s.heard ≡ before ++ failure ∷ []
   pub borne : failures before ≡ words.patience
   pub turns : length s.clock ≤ words.turns
-  pub within : length s.heard ≤ length s.clock * length words.me
-  pub begun : length s.clock * length words.me < length s.heard + length words.me
+  pub within : length s.heard ≤ length s.clock * length (receiving words.me)
+  pub begun : length s.clock * length (receiving words.me) < length s.heard + length (receiving words.me)
   pub written :
       out ≡ concat (note_lines node.stack (plans_of node.stack) (failed_sends s) (node_notes node.plan words s)
       (node_moments node.stack node.plan words s))

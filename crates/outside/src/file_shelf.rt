@@ -1,5 +1,5 @@
 // The files of the system.
-ghost use Rattle.std.specs.Prelude.{◌≡◌, IfOk, IfSome, None, [], ◌≤◌, length};
+ghost use Rattle.std.specs.Prelude.{◌≡◌, IfErr, IfOk, IfSome, IsErr, None, [], ◌≤◌, length};
 ghost use Rattle.outside.specs.declared.shelf.ShelfError.TheVariants.{Failed};
 ghost use Rattle.outside.specs.Shelf.{Fills, faults_after_read};
 ghost use Rattle.outside.specs.Stream.{ReadsStream};
@@ -57,6 +57,7 @@ fn read_opened<S: Read + Drop>(
     ensures filled { Fills most into.new.items result }
     ensures answered { IfOk opened (λ stream. IfSome (S.remaining stream)
         (λ bytes. ReadsStream most bytes into.new.items result)) }
+    ensures refused { IfErr opened (λ _. IsErr result) }
 {
     into.clear();
     let read = match opened {

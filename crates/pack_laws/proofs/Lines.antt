@@ -1,14 +1,18 @@
 -- The line of an operation is written as it was read.
 use Rattle.std.proofs.Common.{◌≡◌, ℕ, zero, suc, ◌+◌, Bool, true, false, ◌==◌, List, [], ◌∷◌, ◌++◌, map, flat_map}
-use Rattle.std.proofs.Common.{length, Option, Some, None, option_map, option_to_list, codes, decimal, bytes_eq}
+use Rattle.std.proofs.Common.{length, Option, Some, None, option_map, option_to_list, codes, decimal}
 use Rattle.std.proofs.Common.{replicate, refl, sym, ap, ◌∙◌, subst, append_assoc, append-nil, eqb-true}
-use Rattle.std.specs.Prelude.{if◌then◌else◌, take}
+use Rattle.std.specs.Prelude.{if◌then◌else◌}
 use Rattle.std.specs.Option.{option_map_or}
 use Rattle.std.proofs.lemmas.List.{length-map}
+use Rattle.layer_words.specs.declared.events.Dir.{Dir}
+use Rattle.layer_words.specs.declared.events.Dir.TheVariants.{Up, Down}
+use Rattle.layer_words.specs.declared.events.Kind.{Kind}
+use Rattle.layer_words.specs.declared.events.Kind.TheVariants.{Stable, Ack}
 use Rattle.layer_words.specs.Signs.{direction_sign}
 use Rattle.layer_words.specs.Spelling.{beside, kind_word}
+use Rattle.layer_mean.specs.Event.{carries}
 use Rattle.layer_mean.specs.Tree.{Carried, ItemsTree, LayerTree}
-use Rattle.msg_core.specs.Headers.{most_fields}
 use Rattle.trace_mean.specs.Trace as trace
 use Rattle.trace_mean.specs.Trace.{Atom, Core, TraceNumber, element, square, Link, Chained, Operation}
 use Rattle.trace_mean.specs.Trace.{bind, note, check, set, push, output}
@@ -20,15 +24,15 @@ use Rattle.pack_mean.specs.Reader.{Reader, ◌>>=◌, yields, the_text, a_word, 
 use Rattle.pack_mean.specs.Named.{Named, items_at, atom_named, core_named, kind_named}
 use Rattle.pack_mean.specs.Expression.{inside, most_brackets, a_number, a_message, a_queue}
 use Rattle.pack_mean.specs.Operation.{an_atom, a_core, tag_named, a_link, links_after, some_links, a_chain, a_chained}
-use Rattle.pack_mean.specs.Operation.{row_message, Sent, nothing_sent, a_last, or_no_more, sent_by, sent_within}
-use Rattle.pack_mean.specs.Operation.{what_is_sent, chained_after, setting, a_bind, a_note, a_check, a_set}
+use Rattle.pack_mean.specs.Operation.{row_message, numbers_of, event_message, chain_towards, chained_after}
+use Rattle.pack_mean.specs.Operation.{a_row_number, setting, a_bind, a_note, a_check, a_set}
 use Rattle.layer_words.specs.Signs.{directions}
 use Rattle.pack_mean.specs.Operation.{a_push, a_take, an_output, operation_by}
 use Rattle.pack_laws.specs.Written.{written_with, line_with, WhatIsReadIsWrittenSo}
 use Rattle.pack_laws.proofs.Readers.{some_same, Gives, gives_value, gives_past}
 use Rattle.pack_laws.proofs.Writing.{Writes, writes_value, writes_given, writes_nowhere, writes_then, writes_such}
 use Rattle.pack_laws.proofs.Writing.{writes_also, writes_known, text_is, writes_text, name_text, writes_name}
-use Rattle.pack_laws.proofs.Writing.{writes_word, writes_case, writes_either, writes_whole, parted, after_commas}
+use Rattle.pack_laws.proofs.Writing.{writes_word, writes_case, writes_whole, parted, after_commas}
 use Rattle.pack_laws.proofs.Writing.{writes_each, in_brackets, parted_more, pushed_ends, sent_ends}
 use Rattle.pack_laws.proofs.Words.{tag_written, kind_written, direction_written, atom_written, core_written}
 use Rattle.pack_laws.proofs.Said.{QueueText, InnerWrites, cell_is, queue_is, number_is, message_is, inside_is}
@@ -42,6 +46,12 @@ Alike _ _ = ⊥
 each_alike : {A B : Type 0} (read : Reader A) (bs : List B) → Gives (λ xs. Alike xs bs) (each_of read bs)
 each_alike read [] = gives_value _ [] tt
 each_alike read (b ∷ bs) = gives_past _ read _ (λ x. gives_past _ (more_of read bs) _ (λ xs. gives_value _ (x ∷ xs) tt))
+
+-- an event has a number
+some_numbers : (k : Kind) → Alike {A = Atom} {B = ℕ} [] (replicate (numbers_of k) 0) → ⊥
+some_numbers Stable h = h
+some_numbers Ack h = h
+some_numbers _ h = h
 
 any_is : {A : Type 0} (read : Reader A) → Gives (λ x. Unit {0}) read
 any_is read = record { said = λ text x rest is. tt }
@@ -64,6 +74,9 @@ module _ (stack : List LayerTree) (before : List (List ℕ)) (s : Named) where
 
   any_number : Writes [] NumberText (a_number stack s)
   any_number = number_is stack before s (inside stack s most_brackets) deepest
+
+  any_row_number : Writes [] NumberText (a_row_number stack s)
+  any_row_number = deepest.number
 
   any_queue : Writes [] (QueueText stack before s) (a_queue stack s)
   any_queue = queue_is stack before s (inside stack s most_brackets) deepest
@@ -178,55 +191,33 @@ module _ (stack : List LayerTree) (before : List (List ℕ)) (s : Named) where
   row_text (name ∷ names) [] message alike = absurd alike
 
   -- what is sent
-  abbrev Parts : Sent → List (List ℕ)
-  Parts sent = map AtomText sent.numbers ++ map CoreText (option_to_list sent.message)
+  event_message_is : (has : Bool) →
+      Writes [] (λ core. after_commas (map CoreText (option_to_list core))) (event_message s has)
+  event_message_is false = writes_value [] _ None refl
+  event_message_is true = writes_text (codes ",") [] _ _ (λ u. writes_then CoreText _ _ _ _ core_is
+      (λ c. writes_value _ _ (Some c) (sym (append-nil (codes "," ++ CoreText c)))))
 
-  module _ (front : List ℕ) (joined : List (List ℕ) → List ℕ)
-      (joins : (x : List ℕ) (xs : List (List ℕ)) → front ++ x ++ after_commas xs ≡ joined (x ∷ xs)) where
-    last_is : (name : List (List ℕ)) → Writes (front ++ name_text name) (λ sent. joined (Parts sent)) (a_last s name)
-    last_is name = writes_known _ _ (core_named s name) _ (λ c is. writes_value _ _ _
-        (ap (λ l. front ++ l) (core_written before s name c is) ∙ sym (append-nil (front ++ CoreText c)) ∙
-        joins (CoreText c) []))
-
-    by_is : (more : Reader Sent) → Writes [] (λ sent. after_commas (Parts sent)) (or_no_more more) →
-        (name : List (List ℕ)) (o : Option Atom) →
-        atom_named s name ≡ o → Writes (front ++ name_text name) (λ sent. joined (Parts sent)) (sent_by s more name o)
-    by_is more h name None is = last_is name
-    by_is more h name (Some a) is = writes_then (λ sent. after_commas (Parts sent)) _ _ _ _ h
-        (λ sent. writes_value _ _ _
-        (ap (λ l. front ++ l ++ after_commas (Parts sent)) (atom_written before s name a is) ∙
-        joins (AtomText a) (Parts sent)))
-
-  no_more_is : (more : Reader Sent) → Writes (codes ",") (λ sent. after_commas (Parts sent)) more →
-      Writes [] (λ sent. after_commas (Parts sent)) (or_no_more more)
-  no_more_is more h = writes_either [] _ (λ text. bytes_eq (take 1 text) (codes ","))
-      (the_text (codes ",") >>= λ _. more) (yields nothing_sent)
-      (writes_text (codes ",") [] _ _ (λ u. h)) (writes_value [] _ nothing_sent refl)
-
-  within_is : (front : List ℕ) (joined : List (List ℕ) → List ℕ) →
-      ((x : List ℕ) (xs : List (List ℕ)) → front ++ x ++ after_commas xs ≡ joined (x ∷ xs)) → (left : ℕ) →
-      Writes front (λ sent. joined (Parts sent)) (sent_within s left)
-  within_is front joined joins zero = writes_name front _ _ (λ name. last_is front joined joins name)
-  within_is front joined joins (suc left) = writes_name front _ _ (λ name. by_is front joined joins (sent_within s left)
-      (no_more_is (sent_within s left) (within_is (codes ",") after_commas (λ x xs. refl) left)) name
-      (atom_named s name) refl)
-
-  sent_is : Writes [] (λ sent. parted (Parts sent)) (what_is_sent s)
-  sent_is = writes_either [] _ (λ text. bytes_eq (take 1 text) (codes ")")) (yields nothing_sent)
-      (sent_within s most_fields)
-      (writes_value [] _ nothing_sent refl) (within_is [] parted (λ x xs. refl) most_fields)
+  sent_text : (k : Kind) (numbers : List Atom) (core : Option Core) → Alike {B = ℕ} numbers (replicate (numbers_of k) 0) →
+      parted (map AtomText numbers) ++ after_commas (map CoreText (option_to_list core)) ≡
+      parted (map AtomText numbers ++ map CoreText (option_to_list core))
+  sent_text k [] core alike = absurd (some_numbers k alike)
+  sent_text k (x ∷ xs) core alike = parted_more (AtomText x) (map AtomText xs) (map CoreText (option_to_list core))
 
   abbrev HasCore : Option Core → Option Chained → Type 0
   HasCore o message = option_map (λ m. m.core) message ≡ o
 
-  after_gives : (o : Option Core) → Gives (HasCore o) (chained_after stack s o)
-  after_gives None = gives_value _ None refl
-  after_gives (Some c) = gives_past _ _ _ (λ chain. gives_value _ _ refl)
+  after_gives : (dir : Dir) (o : Option Core) → Gives (HasCore o) (chained_after stack s dir o)
+  after_gives dir None = gives_value _ None refl
+  after_gives dir (Some c) = gives_past _ _ _ (λ chain. gives_value _ _ refl)
 
-  after_is : (o : Option Core) → Writes [] (λ message. option_map_or (λ (m : Chained). AfterText m.chain) message [])
-      (chained_after stack s o)
-  after_is None = writes_value [] _ None refl
-  after_is (Some c) = writes_then AfterText [] _ _ _ (chain_is 0) (λ chain. writes_value _ _ _ refl)
+  towards_is : (dir : Dir) → Writes [] AfterText (chain_towards stack s dir)
+  towards_is Down = chain_is 0
+  towards_is Up = writes_value [] AfterText [] refl
+
+  after_is : (dir : Dir) (o : Option Core) →
+      Writes [] (λ message. option_map_or (λ (m : Chained). AfterText m.chain) message []) (chained_after stack s dir o)
+  after_is dir None = writes_value [] _ None refl
+  after_is dir (Some c) = writes_then AfterText [] _ _ _ (towards_is dir) (λ chain. writes_value _ _ _ refl)
 
   cores_are : (o : Option Core) (message : Option Chained) → HasCore o message →
       map CoreText (option_to_list o) ≡ map (λ (m : Chained). core_text (written_with before s) m.core)
@@ -270,8 +261,8 @@ module _ (stack : List LayerTree) (before : List (List ℕ)) (s : Named) where
   push_is = writes_text (codes " ") _ _ _
       (λ u. writes_then (QueueText stack before s) _ _ _ _ any_queue (λ q. writes_text (codes " (") _ _ _ (λ v.
       writes_also (λ xs. Alike xs (items_at stack q.place q.cell).numbers) (λ xs. parted (map NumberText xs)) _ _ _ _
-      (each_alike (a_number stack s) (items_at stack q.place q.cell).numbers)
-      (writes_each NumberText (a_number stack s) any_number (items_at stack q.place q.cell).numbers) (λ xs alike.
+      (each_alike (a_row_number stack s) (items_at stack q.place q.cell).numbers)
+      (writes_each NumberText (a_row_number stack s) any_row_number (items_at stack q.place q.cell).numbers) (λ xs alike.
       writes_then (RowText (items_at stack q.place q.cell).numbers) _ _ _ _
       (row_is (q.place + 1) (items_at stack q.place q.cell).numbers (items_at stack q.place q.cell).message) (λ message.
       writes_text (codes ")") _ _ _ (λ w. writes_value _ LineText (push q.place q.cell q.index xs message)
@@ -294,18 +285,26 @@ module _ (stack : List LayerTree) (before : List (List ℕ)) (s : Named) where
       writes_text (codes " ") _ _ _
       (λ v. writes_name _ _ _ (λ name. writes_known _ _ (kind_named name) _ (λ kind kind_is.
       writes_text (codes "(") _ _ _
-      (λ w. writes_then (λ sent. parted (Parts sent)) _ _ _ _ sent_is (λ sent. writes_text (codes ")") _ _ _ (λ x.
-      writes_also (HasCore sent.message) (λ message. option_map_or (λ (m : Chained). AfterText m.chain) message []) _
-      LineText
-      (chained_after stack s sent.message) (λ message. yields (output dir kind sent.numbers message))
-      (after_gives sent.message) (after_is sent.message)
-      (λ message has. writes_value _ LineText (output dir kind sent.numbers message)
-      (sent_ends word (sign_text (direction_sign dir)) (name_text name) (kind_word kind) (parted (Parts sent))
-      (parted (map AtomText sent.numbers ++ map (λ (m : Chained). core_text (written_with before s) m.core)
+      (λ w. writes_also (λ xs. Alike {B = ℕ} xs (replicate (numbers_of kind) 0)) (λ xs. parted (map AtomText xs)) _ _ _ _
+      (each_alike {B = ℕ} (an_atom s) (replicate (numbers_of kind) 0))
+      (writes_each {B = ℕ} AtomText (an_atom s) atom_is (replicate (numbers_of kind) 0)) (λ numbers alike.
+      writes_then (λ core. after_commas (map CoreText (option_to_list core))) _ _ _ _ (event_message_is (carries kind))
+      (λ core. writes_text (codes ")") _ _ _ (λ x.
+      writes_also (HasCore core) (λ message. option_map_or (λ (m : Chained). AfterText m.chain) message []) _ LineText
+      (chained_after stack s dir core) (λ message. yields (output dir kind numbers message))
+      (after_gives dir core) (after_is dir core)
+      (λ message has. writes_value _ LineText (output dir kind numbers message)
+      (ap (λ l. l ++ codes ")" ++ option_map_or (λ (m : Chained). AfterText m.chain) message [])
+      (append_assoc (codes "out " ++ word ++ codes " " ++ name_text name ++ codes "(") (parted (map AtomText numbers))
+      (after_commas (map CoreText (option_to_list core)))) ∙
+      sent_ends word (sign_text (direction_sign dir)) (name_text name) (kind_word kind)
+      (parted (map AtomText numbers) ++ after_commas (map CoreText (option_to_list core)))
+      (parted (map AtomText numbers ++ map (λ (m : Chained). core_text (written_with before s) m.core)
       (option_to_list message)))
       (option_map_or (λ (m : Chained). AfterText m.chain) message []) (direction_written word dir dir_is)
       (kind_written name kind kind_is)
-      (ap (λ cs. parted (map AtomText sent.numbers ++ cs)) (cores_are sent.message message has)))))))))))))
+      (sent_text kind numbers core alike ∙
+      ap (λ cs. parted (map AtomText numbers ++ cs)) (cores_are core message has))))))))))))))
 
   by_word : (word : List ℕ) → Writes word LineText (operation_by stack s word)
   by_word word = writes_case word (codes "bind") _ _ _ bind_is (writes_case word (codes "note") _ _ _ note_is

@@ -163,7 +163,7 @@ OperationsAreRead =
     Reads (output Down Send (peer ∷ [])
     (with_chain (link 0 1 (bound 1 ∷ []) ∷ link 1 1 (number 3 ∷ field 1 ∷ []) ∷ link 2 0 [] ∷ []) (noted 1)))
     (codes "out down Send(peer,m.1) cnt.num(t.1)/forms.tag(3,in.1)/silent.none()") ×
-    Reads (output Up Timer [] None) (codes "out up Timer()") ×
+    Reads (output Up Timer (number 1 ∷ []) None) (codes "out up Timer(1)") ×
     Reads (output Up Stable (number 1 ∷ number 2 ∷ []) None) (codes "out up Stable(1,2)")
 
 -- What isn't there, isn't made yet, isn't in its place or isn't spelled so is no operation.
@@ -182,5 +182,8 @@ OthersAreRefused =
     IsRefused (codes "push 1.q (7,8,body)") × IsRefused (codes "take 1.q row.2") ×
     IsRefused (codes "out up Cast(body,t.0)") ×
     IsRefused (codes "out down Cast(1,body) forms.none()") × IsRefused (codes "out down Cast(1,body) cnt.num()") ×
+    IsRefused (codes "out up Cast(1,body) cnt.none()") × IsRefused (codes "out down Timer(1) cnt.none()") ×
+    IsRefused (codes "out up Timer()") × IsRefused (codes "out up Timer(1,2)") × IsRefused (codes "out up Timer(body)") ×
+    IsRefused (codes "out up Stable(1)") × IsRefused (codes "out up Cast(1)") × IsRefused (codes "out up Cast(1,2)") ×
     IsRefused [] ×
     IsRefused (codes "end")

@@ -1,5 +1,5 @@
 -- Which traces a file holds, or its first line that is out of form.
-use Rattle.std.specs.Prelude.{ℕ, zero, suc, ◌+◌, not, nat_le, List, [], ◌∷◌, ◌++◌, bytes_eq, codes, is_some, Option}
+use Rattle.std.specs.Prelude.{ℕ, zero, suc, not, nat_le, List, [], ◌∷◌, ◌++◌, bytes_eq, codes, is_some, Option}
 use Rattle.std.specs.Prelude.{Some, None, option_map, option_to_list, Result, Ok, Err, if◌then◌else◌}
 use Rattle.std.specs.List.{count_by}
 use Rattle.std.specs.Fmt.{decimal}
@@ -15,8 +15,9 @@ use Rattle.trace_mean.specs.Trace.{Operation, note}
 use Rattle.trace_mean.specs.Fuse.{trace_of}
 use Rattle.bypass_mean.specs.Bypasses.{Entry, entries_of}
 use Rattle.bypass_mean.specs.Lines.{plan_name}
-use Rattle.pack_mean.specs.Named.{Named, nothing_named, naming}
-use Rattle.pack_mean.specs.Operation.{operation_said}
+use Rattle.pack_mean.specs.Named.{Named, nothing_named}
+use Rattle.pack_mean.specs.Operation.{Said, plain, line_said}
+use Rattle.pack_mean.specs.Settled.{Held, nothing_held, held_after, naming}
 
 -- A trace whose entry has a shape in its case, if that isn't longer than is kept.
 abbrev pub within_limit : Result Shape NoShape → Result (List Operation) NoShape → Option (List Operation)
@@ -68,11 +69,11 @@ case_number Second = 2
 abbrev pub heading : ℕ → Case → List ℕ
 heading entry case = codes "entry " ++ entry_name entry ++ codes " case " ++ decimal (case_number case)
 
--- How many operations a case may have beside its notes.
+-- How many lines a case may have beside those of its notes.
 abbrev pub most_operations : ℕ
 most_operations = 4096
 
--- Where in a file a line stands: before the first, after it, in a case that may have `left` more operations, or after
+-- Where in a file a line stands: before the first, after it, in a case that may have `left` more lines beside notes, or after
 -- `end`; and the cases that are still due.
 pub data Stage : Type 0 where
   opening : (due : List Due) → Stage
@@ -83,50 +84,52 @@ pub data Stage : Type 0 where
 -- What was read: the operations of the case that is open, and the traces of those before it.
 pub record Reading : Type 0 where
   pub stage : Stage
-  pub held : List Operation
+  pub held : Held
   pub traces : List (List Operation)
 
 -- Before the first line, where these cases are due.
 abbrev pub begun : List Due → Reading
-begun due = record { stage = opening due; held = []; traces = [] }
+begun due = record { stage = opening due; held = nothing_held; traces = [] }
 
 -- The line with which the next case begins or, after the last case, the file ends.
 abbrev pub next_case : List Due → List (List Operation) → List ℕ → Option Reading
 next_case [] traces line =
-    if bytes_eq line (codes "end") then Some (record { stage = ended; held = []; traces = traces }) else None
+    if bytes_eq line (codes "end") then Some (record { stage = ended; held = nothing_held; traces = traces }) else None
 next_case (d ∷ due) traces line = if bytes_eq line (heading d.entry d.case)
-    then Some (record { stage = within due (nothing_named d.fields) most_operations; held = []; traces = traces })
+    then Some (record { stage = within due (nothing_named d.fields) most_operations; held = nothing_held; traces = traces })
     else None
 
--- One operation more: a note, or another where there is room for it.
-abbrev pub with_operation : List LayerTree → List Due → Named → ℕ → Reading → Operation → Option Reading
-with_operation stack due s left r (note m) =
-    Some (record r { stage = within due (naming stack s (note m)) left; held = r.held ++ note m ∷ [] })
-with_operation stack due s zero r o = None
-with_operation stack due s (suc left) r o =
-    Some (record r { stage = within due (naming stack s o) left; held = r.held ++ o ∷ [] })
+-- One line more: a note, or another where there is room for it.
+abbrev pub with_said : List LayerTree → List Due → Named → ℕ → Reading → Said → Option Reading
+with_said stack due s left r (plain (note m)) = Some (record r {
+  stage = within due (naming stack s r.held (plain (note m))) left;
+  held = held_after r.held (plain (note m));
+})
+with_said stack due s zero r x = None
+with_said stack due s (suc left) r x =
+    Some (record r { stage = within due (naming stack s r.held x) left; held = held_after r.held x })
 
--- A line in a case as the operation that it spells; a line that spells none is out of form.
-abbrev pub operation_line : List LayerTree → List Due → Named → ℕ → Reading → Option Operation → Option Reading
-operation_line stack due s left r None = None
-operation_line stack due s left r (Some o) = with_operation stack due s left r o
+-- A line in a case as what it says; a line that says nothing is out of form.
+abbrev pub said_line : List LayerTree → List Due → Named → ℕ → Reading → Option Said → Option Reading
+said_line stack due s left r None = None
+said_line stack due s left r (Some x) = with_said stack due s left r x
 
--- In a case a line begins the next one, or is an operation.
+-- In a case a line begins the next one, or says what is done.
 abbrev pub case_line : List LayerTree → List Due → Named → ℕ → Reading → List ℕ → Option Reading → Option Reading
 case_line stack due s left r line (Some next) = Some next
-case_line stack due s left r line None = operation_line stack due s left r (operation_said stack s line)
+case_line stack due s left r line None = said_line stack due s left r (line_said stack s line)
 
 -- The first line of a file is `bypasses 1`.
 abbrev pub first_line : List Due → List ℕ → Option Reading
 first_line due line =
-    if bytes_eq line (codes "bypasses 1") then Some (record { stage = idle due; held = []; traces = [] }) else None
+    if bytes_eq line (codes "bypasses 1") then Some (record { stage = idle due; held = nothing_held; traces = [] }) else None
 
 -- What has been read after one more line, if that is in form.
 abbrev pub line_read : List LayerTree → Reading → Stage → List ℕ → Option Reading
 line_read stack r (opening due) line = first_line due line
 line_read stack r (idle due) line = next_case due r.traces line
 line_read stack r (within due s left) line =
-    case_line stack due s left r line (next_case due (r.traces ++ r.held ∷ []) line)
+    case_line stack due s left r line (next_case due (r.traces ++ r.held.operations ∷ []) line)
 line_read stack r ended line = None
 
 -- A file may end only after `end`; elsewhere `end` is missing.

@@ -1,5 +1,5 @@
 -- What a line may name, and how names are spelled.
-use Rattle.std.specs.Prelude.{ℕ, ◌+◌, nat_lt, List, [], ◌∷◌, ◌++◌, length, map, slice_index_or, bytes_eq, codes, Option}
+use Rattle.std.specs.Prelude.{ℕ, nat_lt, List, [], ◌∷◌, ◌++◌, length, map, slice_index_or, bytes_eq, codes, Option}
 use Rattle.std.specs.Prelude.{Some, None, option_map, unwrap_or, if◌then◌else◌}
 use Rattle.std.specs.List.{find, position}
 use Rattle.layer_words.specs.declared.operators.Function.{Function}
@@ -15,22 +15,22 @@ use Rattle.layer_words.specs.Spelling.{beside, kinds}
 use Rattle.script_mean.specs.Words.{◌>>=◌, number_of}
 use Rattle.layer_mean.specs.Tree.{Form, ItemsTree, LayerTree, queue, queues}
 use Rattle.trace_mean.specs.Trace.{Atom, number, peer, field, bound, taken_number, Core, body, noted, taken_message}
-use Rattle.trace_mean.specs.Trace.{nothing, Operation, bind, note, take}
+use Rattle.trace_mean.specs.Trace.{nothing}
 use Rattle.trace_mean.specs.Fuse.{form_at}
 use Rattle.bypass_mean.specs.Text.{layer_of}
 use Rattle.layer_words.specs.Spelling.{sign_text}
 
--- What may be named on a line: n variable fields, numbers bound before and messages noted before, and of each row
--- taken before what its queue's rows have.
+-- What may be named on a line: n variable fields; the numbers that lines before bound and the messages that they noted,
+-- each by its number in the trace; and of each row taken before what its queue's rows have.
 pub record Named : Type 0 where
   pub fields : ℕ
-  pub binds : ℕ
-  pub notes : ℕ
+  pub binds : List ℕ
+  pub notes : List ℕ
   pub rows : List ItemsTree
 
 -- Before the first line of an entry.
 abbrev pub nothing_named : ℕ → Named
-nothing_named fields = record { fields = fields; binds = 0; notes = 0; rows = [] }
+nothing_named fields = record { fields = fields; binds = []; notes = []; rows = [] }
 
 -- What the rows of a cell have, if it is a queue.
 abbrev pub items_in : Option Form → Option ItemsTree
@@ -46,18 +46,17 @@ no_items = record { numbers = []; message = None }
 abbrev pub items_at : List LayerTree → ℕ → ℕ → ItemsTree
 items_at stack p c = unwrap_or (items_in (form_at (layer_of stack p) c)) no_items
 
--- What may be named after an operation.
-abbrev pub naming : List LayerTree → Named → Operation → Named
-naming stack s (bind e) = record s { binds = s.binds + 1 }
-naming stack s (note m) = record s { notes = s.notes + 1 }
-naming stack s (take p c e) = record s { rows = s.rows ++ items_at stack p c ∷ [] }
-naming stack s _ = s
-
 -- A number below another.
 abbrev pub below : ℕ → List ℕ → Option ℕ
 below limit word = do
   n ← number_of word
   if nat_lt n limit then Some n else None
+
+-- What has this number among those that have a name.
+abbrev pub numbered : List ℕ → List ℕ → Option ℕ
+numbered named word = do
+  k ← below (length named) word
+  Some (slice_index_or named k 0)
 
 -- What has a name, by its place in a list.
 abbrev pub place_of : List ℕ → List (List ℕ) → Option ℕ
@@ -83,7 +82,7 @@ abbrev pub atom_named : Named → List (List ℕ) → Option Atom
 atom_named s (word ∷ []) = if bytes_eq word (codes "peer") then Some peer else option_map number (number_of word)
 atom_named s (kind ∷ k ∷ []) =
     if bytes_eq kind (codes "in") then option_map field (below s.fields k)
-    else if bytes_eq kind (codes "t") then option_map bound (below s.binds k)
+    else if bytes_eq kind (codes "t") then option_map bound (numbered s.binds k)
     else None
 atom_named s (kind ∷ row ∷ name ∷ []) = if bytes_eq kind (codes "row") then row_number s row name else None
 atom_named s _ = None
@@ -95,7 +94,7 @@ core_named s (word ∷ []) =
     else if bytes_eq word (codes "nothing") then Some nothing
     else None
 core_named s (kind ∷ k ∷ []) =
-    if bytes_eq kind (codes "m") then option_map noted (below s.notes k)
+    if bytes_eq kind (codes "m") then option_map noted (numbered s.notes k)
     else if bytes_eq kind (codes "row") then row_message s k
     else None
 core_named s _ = None

@@ -1,33 +1,48 @@
 -- How the operations of traces are read, each from a line of its own.
-use Rattle.std.specs.Prelude.{ℕ, zero, suc, ◌+◌, ◌==◌, List, [], ◌∷◌, ◌++◌, length, map, take, replicate, bytes_eq}
-use Rattle.std.specs.Prelude.{codes, Option, Some, None, if◌then◌else◌}
+use Rattle.std.specs.Prelude.{ℕ, zero, suc, ◌+◌, ◌==◌, Bool, true, false, List, [], ◌∷◌, ◌++◌, length, map, replicate}
+use Rattle.std.specs.Prelude.{bytes_eq, codes, Option, Some, None, if◌then◌else◌}
 use Rattle.std.specs.Fmt.{decimal}
+use Rattle.layer_words.specs.declared.events.Dir.{Dir}
+use Rattle.layer_words.specs.declared.events.Dir.TheVariants.{Up, Down}
+use Rattle.layer_words.specs.declared.events.Kind.{Kind}
+use Rattle.layer_words.specs.declared.events.Kind.TheVariants.{Stable, Ack}
 use Rattle.layer_words.specs.Signs.{directions}
 use Rattle.layer_words.specs.Spelling.{beside}
+use Rattle.layer_mean.specs.Event.{carries}
 use Rattle.layer_mean.specs.Headers.{header_none}
 use Rattle.layer_mean.specs.Tree.{Carried, LayerTree}
-use Rattle.msg_core.specs.Headers.{most_fields}
 use Rattle.trace_mean.specs.Trace as trace
-use Rattle.trace_mean.specs.Trace.{Atom, Core, TraceNumber, element, square, Link, Chained, Operation, bind, note}
-use Rattle.trace_mean.specs.Trace.{check, set, set_square, push, output}
+use Rattle.trace_mean.specs.Trace.{TraceNumber, element, square, TraceMessage, Operation, bind, note, check, set}
+use Rattle.trace_mean.specs.Trace.{set_square}
 use Rattle.trace_mean.specs.Fuse.{fields_of}
 use Rattle.bypass_mean.specs.Text.{layer_of}
 use Rattle.pack_mean.specs.Reader.{Reader, ◌>>=◌, yields, option_reader, nowhere, the_text, a_name, a_word, whole}
 use Rattle.pack_mean.specs.Reader.{each_of}
-use Rattle.pack_mean.specs.Named.{Named, items_at, place_of, atom_named, core_named, kind_named}
+use Rattle.pack_mean.specs.Named.{Named, items_at, place_of, kind_named}
 use Rattle.pack_mean.specs.Expression.{inside, most_brackets, a_cell, a_number, a_message, a_queue}
 
--- A number for which no cell is read.
-abbrev pub an_atom : Named → Reader Atom
-an_atom s = do
-  name ← a_name
-  option_reader (atom_named s name)
+-- A known header, and a message with its known headers, as a line says them: with numbers and messages of any form.
+pub record SaidLink : Type 0 where
+  pub place : ℕ
+  pub tag : ℕ
+  pub fields : List TraceNumber
 
--- A message for which no cell is read, without its known headers.
-abbrev pub a_core : Named → Reader Core
-a_core s = do
-  name ← a_name
-  option_reader (core_named s name)
+pub record SaidMessage : Type 0 where
+  pub chain : List SaidLink
+  pub message : TraceMessage
+
+-- What a line says: an operation as it stands in a trace, a row that is pushed, or what is put out.
+pub data Said : Type 0 where
+  plain : Operation → Said
+  pushed : (place cell : ℕ) (index : TraceNumber) (numbers : List TraceNumber) (message : Option SaidMessage) → Said
+  sent : Dir → Kind → (numbers : List TraceNumber) (message : Option SaidMessage) → Said
+
+-- A number and a message that stand in one bracket of their line.
+abbrev pub an_inner_number : List LayerTree → Named → Reader TraceNumber
+an_inner_number stack s = (inside stack s most_brackets).number
+
+abbrev pub an_inner_message : List LayerTree → Named → Reader TraceMessage
+an_inner_message stack s = (inside stack s most_brackets).message
 
 -- The tag of a header of a layer, by the words LAYER.HEADER; 0 is that of `none`.
 abbrev pub tag_named : LayerTree → List (List ℕ) → Option ℕ
@@ -36,18 +51,18 @@ tag_named layer (name ∷ header ∷ []) =
 tag_named layer _ = None
 
 -- A known header of the layer at a place: LAYER.HEADER(F,F), with as many fields as it has.
-abbrev pub a_link : List LayerTree → Named → ℕ → Reader Link
+abbrev pub a_link : List LayerTree → Named → ℕ → Reader SaidLink
 a_link stack s place = do
   name ← a_name
   tag ← option_reader (tag_named (layer_of stack place) name)
   _ ← the_text (codes "(")
-  fields ← each_of (an_atom s) (replicate (fields_of (layer_of stack place) tag) place)
+  fields ← each_of (an_inner_number stack s) (replicate (fields_of (layer_of stack place) tag) place)
   _ ← the_text (codes ")")
   yields (record { place = place; tag = tag; fields = fields })
 
 -- Known headers, with `/` between: they stand at places one above the other, the first at this one. There are no more
 -- than places.
-abbrev pub links_after : List LayerTree → Named → ℕ → ℕ → Reader (List Link)
+abbrev pub links_after : List LayerTree → Named → ℕ → ℕ → Reader (List SaidLink)
 links_after stack s place zero text = Some ([], text)
 links_after stack s place (suc left) [] = Some ([], [])
 links_after stack s place (suc left) (byte ∷ bytes) =
@@ -58,23 +73,23 @@ links_after stack s place (suc left) (byte ∷ bytes) =
     else Some ([], byte ∷ bytes)
 
 -- Known headers, at least one, of the layers at this place and those above it.
-abbrev pub some_links : List LayerTree → Named → ℕ → Reader (List Link)
+abbrev pub some_links : List LayerTree → Named → ℕ → Reader (List SaidLink)
 some_links stack s place = do
   first ← a_link stack s place
   more ← links_after stack s (place + 1) (length stack)
   yields (first ∷ more)
 
 -- The known headers after a message, or none where they are missing.
-abbrev pub a_chain : List LayerTree → Named → ℕ → Reader (List Link)
+abbrev pub a_chain : List LayerTree → Named → ℕ → Reader (List SaidLink)
 a_chain stack s place [] = Some ([], [])
 a_chain stack s place (byte ∷ bytes) = if byte == 32 then some_links stack s place bytes else Some ([], byte ∷ bytes)
 
 -- A message with its known headers after it.
-abbrev pub a_chained : List LayerTree → Named → ℕ → Reader Chained
+abbrev pub a_chained : List LayerTree → Named → ℕ → Reader SaidMessage
 a_chained stack s place = do
-  c ← a_core s
+  m ← an_inner_message stack s
   chain ← a_chain stack s place
-  yields (record { chain = chain; core = c })
+  yields (record { chain = chain; message = m })
 
 -- A comma, if a row has numbers before its message.
 abbrev pub comma_after : List (List ℕ) → Reader (Unit {0})
@@ -84,94 +99,68 @@ comma_after (name ∷ names) = the_text (codes ",")
 -- The message of a row to be pushed, where its queue's rows have one: it stands after the row's numbers, and after a
 -- comma where there are any.
 abbrev pub row_message : List LayerTree → Named → ℕ → List (List ℕ) → Option (List ℕ × Carried) →
-    Reader (Option Chained)
+    Reader (Option SaidMessage)
 row_message stack s place names None = yields None
 row_message stack s place names (Some carried) = do
   _ ← comma_after names
   m ← a_chained stack s place
   yields (Some m)
 
--- What stands in the brackets of an output: numbers, and a message after these where it has one.
-pub record Sent : Type 0 where
-  pub numbers : List Atom
-  pub message : Option Core
+-- How many numbers an event of a kind has: two for those of two members or counts, and one for all others.
+abbrev pub numbers_of : Kind → ℕ
+numbers_of Stable = 2
+numbers_of Ack = 2
+numbers_of _ = 1
 
--- An output with neither numbers nor a message.
-abbrev pub nothing_sent : Sent
-nothing_sent = record { numbers = []; message = None }
+-- The message of an event after its numbers, where its kind has one.
+abbrev pub event_message : List LayerTree → Named → Bool → Reader (Option TraceMessage)
+event_message stack s false = yields None
+event_message stack s true = do
+  _ ← the_text (codes ",")
+  m ← an_inner_message stack s
+  yields (Some m)
 
--- An output with one number more, in front of the others.
-abbrev pub with_number : Atom → Sent → Sent
-with_number a sent = record sent { numbers = a ∷ sent.numbers }
+-- The known headers of what is put out: a message that goes down may have some, and what goes up has none.
+abbrev pub chain_towards : List LayerTree → Named → Dir → Reader (List SaidLink)
+chain_towards stack s Down = a_chain stack s 0
+chain_towards stack s Up = yields []
 
--- A name that is an output's message, with nothing after it.
-abbrev pub a_last : Named → List (List ℕ) → Reader Sent
-a_last s name = do
-  c ← option_reader (core_named s name)
-  yields (record { numbers = []; message = Some c })
-
--- What follows after a comma, if one stands here.
-abbrev pub or_no_more : Reader Sent → Reader Sent
-or_no_more more text = if bytes_eq (take 1 text) (codes ",") then (the_text (codes ",") >>= λ _. more) text else Some
-    (nothing_sent, text)
-
--- What a name is, and what follows it: after a number there may be more.
-abbrev pub sent_by : Named → Reader Sent → List (List ℕ) → Option Atom → Reader Sent
-sent_by s more name (Some a) = do
-  sent ← or_no_more more
-  yields (with_number a sent)
-sent_by s more name None = a_last s name
-
--- At most n numbers, and a message.
-abbrev pub sent_within : Named → ℕ → Reader Sent
-sent_within s zero = do
-  name ← a_name
-  a_last s name
-sent_within s (suc left) = do
-  name ← a_name
-  sent_by s (sent_within s left) name (atom_named s name)
-
--- What stands before the closing bracket of an output: nothing, or numbers and a message.
-abbrev pub what_is_sent : Named → Reader Sent
-what_is_sent s text = if bytes_eq (take 1 text) (codes ")") then Some (nothing_sent, text) else sent_within
-    s most_fields text
-
--- Its message, with its known headers after the bracket.
-abbrev pub chained_after : List LayerTree → Named → Option Core → Reader (Option Chained)
-chained_after stack s None = yields None
-chained_after stack s (Some c) = do
-  chain ← a_chain stack s 0
-  yields (Some (record { chain = chain; core = c }))
+-- The message that is put out, with its known headers after the bracket.
+abbrev pub chained_after : List LayerTree → Named → Dir → Option TraceMessage → Reader (Option SaidMessage)
+chained_after stack s dir None = yields None
+chained_after stack s dir (Some m) = do
+  chain ← chain_towards stack s dir
+  yields (Some (record { chain = chain; message = m }))
 
 -- What is set, after its text: a number of a cell.
-abbrev pub setting : TraceNumber → TraceNumber → Option Operation
-setting (element p c e) x = Some (set p c e x)
-setting (square p c row column) x = Some (set_square p c row column x)
+abbrev pub setting : TraceNumber → TraceNumber → Option Said
+setting (element p c e) x = Some (plain (set p c e x))
+setting (square p c row column) x = Some (plain (set_square p c row column x))
 setting _ x = None
 
 -- A bind, after its word: `t.K = NUMBER`, where K numbers were bound before.
-abbrev pub a_bind : List LayerTree → Named → Reader Operation
+abbrev pub a_bind : List LayerTree → Named → Reader Said
 a_bind stack s = do
-  _ ← the_text (codes " t." ++ decimal s.binds ++ codes " = ")
+  _ ← the_text (codes " t." ++ decimal (length s.binds) ++ codes " = ")
   e ← a_number stack s
-  yields (bind e)
+  yields (plain (bind e))
 
 -- A note, after its word: `m.K = MESSAGE`, where K messages were noted before.
-abbrev pub a_note : List LayerTree → Named → Reader Operation
+abbrev pub a_note : List LayerTree → Named → Reader Said
 a_note stack s = do
-  _ ← the_text (codes " m." ++ decimal s.notes ++ codes " = ")
+  _ ← the_text (codes " m." ++ decimal (length s.notes) ++ codes " = ")
   m ← a_message stack s
-  yields (note m)
+  yields (plain (note m))
 
 -- A check, after its word: `NUMBER`.
-abbrev pub a_check : List LayerTree → Named → Reader Operation
+abbrev pub a_check : List LayerTree → Named → Reader Said
 a_check stack s = do
   _ ← the_text (codes " ")
   e ← a_number stack s
-  yields (check e)
+  yields (plain (check e))
 
 -- A set of a number of a cell, after its word: `CELL = NUMBER`.
-abbrev pub a_set : List LayerTree → Named → Reader Operation
+abbrev pub a_set : List LayerTree → Named → Reader Said
 a_set stack s = do
   _ ← the_text (codes " ")
   name ← a_name
@@ -182,27 +171,28 @@ a_set stack s = do
 
 -- A push, after its word: `QUEUE (N,N,MESSAGE)`, with the numbers that the queue's rows have, and a message if they
 -- have one.
-abbrev pub a_push : List LayerTree → Named → Reader Operation
+abbrev pub a_push : List LayerTree → Named → Reader Said
 a_push stack s = do
   _ ← the_text (codes " ")
   q ← a_queue stack s
   _ ← the_text (codes " (")
-  numbers ← each_of (a_number stack s) (items_at stack q.place q.cell).numbers
+  numbers ← each_of (an_inner_number stack s) (items_at stack q.place q.cell).numbers
   message ← row_message stack s (q.place + 1) (items_at stack q.place q.cell).numbers
       (items_at stack q.place q.cell).message
   _ ← the_text (codes ")")
-  yields (push q.place q.cell q.index numbers message)
+  yields (pushed q.place q.cell q.index numbers message)
 
 -- A take, after its word: `QUEUE row.K`, where K rows were taken before.
-abbrev pub a_take : List LayerTree → Named → Reader Operation
+abbrev pub a_take : List LayerTree → Named → Reader Said
 a_take stack s = do
   _ ← the_text (codes " ")
   q ← a_queue stack s
   _ ← the_text (codes " row." ++ decimal (length s.rows))
-  yields (trace.take q.place q.cell q.index)
+  yields (plain (trace.take q.place q.cell q.index))
 
--- An output, after its word: `DIRECTION KIND(N,N,MESSAGE)`, and after that the known headers of its message.
-abbrev pub an_output : List LayerTree → Named → Reader Operation
+-- An output, after its word: `DIRECTION KIND(N,N,MESSAGE)`, with the numbers and the message that the kind has, and
+-- after that the known headers of a message that goes down.
+abbrev pub an_output : List LayerTree → Named → Reader Said
 an_output stack s = do
   _ ← the_text (codes " ")
   direction ← a_word
@@ -211,13 +201,14 @@ an_output stack s = do
   name ← a_name
   kind ← option_reader (kind_named name)
   _ ← the_text (codes "(")
-  sent ← what_is_sent s
+  numbers ← each_of {B = ℕ} (an_inner_number stack s) (replicate (numbers_of kind) 0)
+  whole ← event_message stack s (carries kind)
   _ ← the_text (codes ")")
-  message ← chained_after stack s sent.message
-  yields (output dir kind sent.numbers message)
+  message ← chained_after stack s dir whole
+  yields (sent dir kind numbers message)
 
 -- An operation whose first word is this, after the word.
-abbrev pub operation_by : List LayerTree → Named → List ℕ → Reader Operation
+abbrev pub operation_by : List LayerTree → Named → List ℕ → Reader Said
 operation_by stack s word =
     if bytes_eq word (codes "bind") then a_bind stack s
     else if bytes_eq word (codes "note") then a_note stack s
@@ -228,6 +219,6 @@ operation_by stack s word =
     else if bytes_eq word (codes "out") then an_output stack s
     else nowhere
 
--- The operation that a whole line spells, if it spells one.
-abbrev pub operation_said : List LayerTree → Named → List ℕ → Option Operation
-operation_said stack s = whole (a_word >>= operation_by stack s)
+-- What a whole line says, if it says something.
+abbrev pub line_said : List LayerTree → Named → List ℕ → Option Said
+line_said stack s = whole (a_word >>= operation_by stack s)

@@ -8,7 +8,6 @@ mod Numbering
 mod Fields
 mod Listing
 mod Chaining
-mod Sending
 mod OperationRules
 mod Headings
 mod Bare

@@ -9,6 +9,7 @@ use Rattle.pack_mean.specs.Reader.{◌>>=◌, the_text, a_name}
 use Rattle.pack_mean.specs.Named.{atom_named, cell_named, core_named}
 use Rattle.pack_mean.specs.Expression.{a_cell, a_message, a_number, a_queue, an_operation, inside, most_brackets}
 use Rattle.pack_mean.specs.Expression.{message_named, message_with, number_named, number_with, queue_with}
+use Rattle.pack_mean.specs.Operation.{a_row_number}
 use Rattle.trace_core.specs.declared.node.Node.{Node}
 use Rattle.pack_words.specs.View.{layers_in, named_in, pair_of}
 use Rattle.pack_words.specs.declared.spot.Spot.{Spot}
@@ -126,6 +127,11 @@ module _ (s : Scope) (t : List ℕ) where
         ReadsNumber (a_number (layers_in s) (named_in s) t) a b t1 r
     unfolding inner
     number_whole r h = h
+
+    pub row_number_whole : (r : Result ℕ LineError) → ReadsNumber ((inner s most_brackets).number t) a b t1 r →
+        ReadsNumber (a_row_number (layers_in s) (named_in s) t) a b t1 r
+    unfolding inner
+    row_number_whole r h = h
 
     pub message_whole : (r : Result ℕ LineError) → ReadsMessage ((inner s (suc most_brackets)).message t) a b t1 r →
         ReadsMessage (a_message (layers_in s) (named_in s) t) a b t1 r

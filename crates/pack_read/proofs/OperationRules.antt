@@ -8,7 +8,6 @@ use Rattle.pack_read.proofs.Numbering.{
   first_there,
   no_first,
 }
-use Rattle.pack_read.proofs.Sending.{ends_sent, more_sent, no_more_sent, no_sent}
 
 -- For `more_fields`.
 pub ruleset of_more_fields = (no_fields, field_more, no_comma_in_fields, no_field)
@@ -18,6 +17,3 @@ pub ruleset of_more_numbers = (numbers_next, no_comma_in_numbering, no_number)
 
 -- For `some_numbers`.
 pub ruleset of_some_numbers = (none_read, first_there, no_first)
-
--- For `sent_within`.
-pub ruleset of_sent_within = (ends_sent, more_sent, no_more_sent, no_sent)

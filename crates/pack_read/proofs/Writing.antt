@@ -10,7 +10,7 @@ use Rattle.pack_mean.specs.Reader.{Reader, ◌>>=◌, each_of, option_reader, th
 use Rattle.pack_mean.specs.Named.{Named, items_at}
 use Rattle.pack_mean.specs.Expression.{QueueNamed, a_number, a_queue}
 use Rattle.pack_mean.specs.Operation as operation
-use Rattle.pack_mean.specs.Operation.{a_set}
+use Rattle.pack_mean.specs.Operation.{a_row_number, a_set}
 use Rattle.trace_core.specs.declared.node.Node.{Node}
 use Rattle.trace_core.specs.declared.operation.Chained.{Chained}
 use Rattle.trace_core.specs.declared.operation.Operation.{Operation}
@@ -101,7 +101,7 @@ set_read stack s t0 t1 t2 t3 t4 old new nodes (targets.Square spot row column) v
 -- What is pushed, after its queue and a bracket.
 abbrev pushed_on : List LayerTree → Named → QueueNamed → Reader trace.Operation
 pushed_on stack s q =
-    each_of (a_number stack s) (items_at stack q.place q.cell).numbers >>= λ numbers.
+    each_of (a_row_number stack s) (items_at stack q.place q.cell).numbers >>= λ numbers.
     (operation.row_message stack s (q.place + 1) (items_at stack q.place q.cell).numbers
     (items_at stack q.place q.cell).message >>= λ message.
     (the_text (codes ")") >>= λ _. yields (trace.push q.place q.cell q.index numbers message)))
@@ -111,7 +111,7 @@ push_parts : (stack : List LayerTree) (s : Named) (t0 t1 t2 t3 t4 t5 t6 : List �
     (m : Option trace.Chained) →
     the_text (codes " ") t0 ≡ Some (tt, t1) → a_queue stack s t1 ≡ Some (q, t2) →
     the_text (codes " (") t2 ≡ Some (tt, t3) →
-    each_of (a_number stack s) (items_at stack q.place q.cell).numbers t3 ≡ Some (ns, t4) →
+    each_of (a_row_number stack s) (items_at stack q.place q.cell).numbers t3 ≡ Some (ns, t4) →
     operation.row_message stack s (q.place + 1) (items_at stack q.place q.cell).numbers
     (items_at stack q.place q.cell).message t4 ≡ Some (m, t5) →
     the_text (codes ")") t5 ≡ Some (tt, t6) → operation.a_push stack s t0 ≡
@@ -135,7 +135,7 @@ pub push_read : (stack : List LayerTree) (s : Named) (t0 t1 t2 t3 t4 t5 t6 : Lis
     (m : Option Chained) (items : ItemsTree) → the_text (codes " ") t0 ≡ Some (tt, t1) →
     QueueRead (a_queue stack s t1) old.nodes nodes t2 q →
     the_text (codes " (") t2 ≡ Some (tt, t3) → items ≡ items_at stack q.spot.place q.spot.cell →
-    NumbersRead (each_of (a_number stack s) items.numbers t3) nodes new.nodes t4 [] ks →
+    NumbersRead (each_of (a_row_number stack s) items.numbers t3) nodes new.nodes t4 [] ks →
     MessageRead (operation.row_message stack s (q.spot.place + 1) items.numbers items.message t4) old.links new.links t5
     m →
     the_text (codes ")") t5 ≡ Some (tt, t6) →
@@ -145,7 +145,7 @@ push_read stack s t0 t1 t2 t3 t4 t5 t6 old new nodes q ks m items space queue op
     record {
       is = push_parts stack s t0 t1 t2 t3 t4 t5 t6 (queue_in (terms nodes) q) numbers.rest
           (option_map (chained_in (chains new.links)) m) space queue.is opens
-          (ap (λ z. each_of (a_number stack s) z.numbers t3) (sym e) ∙ numbers.is)
+          (ap (λ z. each_of (a_row_number stack s) z.numbers t3) (sym e) ∙ numbers.is)
           (ap (λ z. operation.row_message stack s (q.spot.place + 1) z.numbers z.message t4) (sym e) ∙ message.is)
           closes
           ∙ sym (λ i. Some (

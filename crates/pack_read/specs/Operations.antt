@@ -6,7 +6,6 @@ use Rattle.layer_words.specs.declared.events.Dir.{Dir}
 use Rattle.layer_words.specs.declared.events.Kind.{Kind}
 use Rattle.layer_words.specs.Spelling.{beside}
 use Rattle.pack_mean.specs.Named.{kind_named}
-use Rattle.pack_mean.specs.Operation as operation
 use Rattle.layer_words.specs.Signs.{directions}
 use Rattle.pack_mean.specs.Reader.{Reader, ◌>>=◌, option_reader, a_name, a_word}
 use Rattle.trace_core.specs.declared.node.Atom.{Atom}
@@ -18,14 +17,13 @@ use Rattle.trace_core.specs.declared.operation.Operation.TheVariants as operatio
 use Rattle.pack_read.specs.declared.targeted.Target.{Target}
 use Rattle.pack_read.specs.declared.targeted.Target.TheVariants as targets
 use Rattle.trace_core.specs.Grown.{Grown}
-use Rattle.trace_core.specs.View.{atom_tree, core_tree, number_in, terms}
+use Rattle.trace_core.specs.View.{atom_tree, number_in, terms}
 use Rattle.trace_core.specs.Links.{IsChain, chain_in, chains}
 use Rattle.trace_core.specs.Operations.{AllNumbers, HasChain, IsPart, chained_in, operation_in}
 use Rattle.pack_words.specs.declared.error.LineError.{LineError}
 use Rattle.pack_words.specs.declared.error.LineError.TheVariants.{Form, Memory}
 use Rattle.pack_read.specs.declared.store.Store.{Store}
 use Rattle.pack_read.specs.declared.header.Header.{Header}
-use Rattle.pack_read.specs.declared.sent.Sent.{Sent}
 
 -- What a reader took from the front, as the definitions see it, and the bytes after it; or that it takes nothing. Want
 -- of memory says nothing.
@@ -103,19 +101,6 @@ abbrev pub ReadsMessage : Option (Option trace.Chained × List ℕ) → List Lin
 ReadsMessage taken old new after (Ok m) = MessageRead taken old new after m
 ReadsMessage taken old new after (Err Form) = taken ≡ None
 ReadsMessage taken old new after (Err Memory) = Unit {0}
-
--- What is sent, after the numbers in front.
-pub record SentRead (taken : Option (operation.Sent × List ℕ)) (front : List Atom) (after : List ℕ) (sent : Sent) : Type
-    0 where
-  pub rest : operation.Sent
-  pub is : taken ≡ Some (rest, after)
-  pub numbers_are : map atom_tree sent.numbers ≡ map atom_tree front ++ rest.numbers
-  pub message_is : option_map core_tree sent.message ≡ rest.message
-
-abbrev pub ReadsSent : Option (operation.Sent × List ℕ) → List Atom → Result Sent LineError → List ℕ → Type 0
-ReadsSent taken front (Ok sent) after = SentRead taken front after sent
-ReadsSent taken front (Err Form) after = taken ≡ None
-ReadsSent taken front (Err Memory) after = Unit {0}
 
 -- Numbers that a reader took stand after those in front: nodes were added.
 pub record NumbersRead (taken : Option (List TraceNumber × List ℕ)) (old new : List Node) (after : List ℕ)

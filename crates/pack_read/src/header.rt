@@ -60,7 +60,12 @@ fn more_fields(
 
 /// `count` fields, with commas between.
 #[tactic(auto, using(crate::proofs::Fields::fields_after, crate::proofs::Fields::no_first))]
-fn fields(text: &mut Text<'_>, scope: &Scope<'_>, place: u8, count: u8) -> Result<Atoms, LineError>
+pub(crate) fn fields(
+    text: &mut Text<'_>,
+    scope: &Scope<'_>,
+    place: u8,
+    count: u8,
+) -> Result<Atoms, LineError>
     ensures { TakesAs (map atom_tree) (reader.each_of (operation.an_atom (named_in scope.now))
         (replicate count place) (left text.old)) result (left text.new) }
 {

@@ -5,7 +5,8 @@ ghost use Rattle.pack_words.specs.Reading.{Takes, left};
 ghost use Rattle.pack_words.specs.View.{layers_in, named_in};
 ghost use Rattle.pack_read.specs.Operations.{ReadsOperation, a_direction, a_kind};
 
-use crate::sent::{sent_message, what_is_sent};
+use crate::header::fields;
+use crate::sent::{event_message, numbers_of, sent_message};
 use crate::store::Store;
 use layer_words::{Dir, Kind};
 use pack_words::{LineError, Scope, Text, kind_named};
@@ -47,13 +48,14 @@ pub(crate) fn output(
     text.the(b" ")?;
     let kind = kind(text)?;
     text.the(b"(")?;
-    let sent = what_is_sent(text, scope)?;
+    let numbers = fields(text, scope, 0, numbers_of(kind))?;
+    let core = event_message(text, scope, kind)?;
     text.the(b")")?;
-    let message = sent_message(text, scope, &mut store.links, sent.message)?;
+    let message = sent_message(text, scope, &mut store.links, dir, core)?;
     Ok(Operation::Output {
         dir,
         kind,
-        numbers: sent.numbers,
+        numbers,
         message,
     })
 }

@@ -2,6 +2,7 @@
 
 ghost use Rattle.std.specs.Prelude.{◌≡◌};
 ghost use Rattle.pack_mean.specs.Expression.{a_message, a_number, a_queue};
+ghost use Rattle.pack_mean.specs.Operation.{a_row_number};
 ghost use Rattle.pack_words.specs.Reading.{left};
 ghost use Rattle.pack_words.specs.View.{layers_in, named_in};
 ghost use Rattle.pack_read.specs.Expressions.{ReadsMessage, ReadsNumber, ReadsQueue, ReadsTarget, a_target};
@@ -21,6 +22,18 @@ pub fn number(text: &mut Text<'_>, scope: &Scope<'_>, nodes: &mut Arena) -> Resu
         (left text.new) result }
 {
     expressions::number(text, scope, MOST_BRACKETS + 1, nodes)
+}
+
+/// A number that stands in one bracket, as a node.
+pub fn row_number(
+    text: &mut Text<'_>,
+    scope: &Scope<'_>,
+    nodes: &mut Arena,
+) -> Result<u32, LineError>
+    ensures { ReadsNumber (a_row_number (layers_in scope.now) (named_in scope.now) (left text.old)) nodes.old nodes.new
+        (left text.new) result }
+{
+    expressions::number(text, scope, MOST_BRACKETS, nodes)
 }
 
 /// A message, as a node.

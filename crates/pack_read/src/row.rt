@@ -1,7 +1,6 @@
 //! The rows that are pushed: numbers, and a message with its known headers.
 
 ghost use Rattle.std.specs.Prelude.{◌≡◌, ◌∷◌, ◌++◌, [], IfOk};
-ghost use Rattle.pack_mean.specs.Expression as expression;
 ghost use Rattle.pack_mean.specs.Named.{items_at};
 ghost use Rattle.pack_mean.specs.Operation as operation;
 ghost use Rattle.pack_mean.specs.Reader as reader;
@@ -14,7 +13,7 @@ ghost use Rattle.pack_read.specs.Operations.{ReadsMessage, ReadsNumbers};
 
 use crate::chain::chained;
 use crate::header::MOST_FIELDS;
-use crate::read::number;
+use crate::read::row_number;
 use layer_words::Word;
 use msg_core::Fields;
 use pack_words::{LineError, Scope, Text};
@@ -44,14 +43,14 @@ fn more_numbers(
     numbers: Fields,
 ) -> Result<Fields, LineError>
     requires { AllNumbers (terms nodes.old) numbers }
-    ensures { ReadsNumbers (reader.more_of (expression.a_number (layers_in scope.now) (named_in scope.now)) names.now
+    ensures { ReadsNumbers (reader.more_of (operation.a_row_number (layers_in scope.now) (named_in scope.now)) names.now
         (left text.old)) nodes.old nodes.new (left text.new) numbers result }
 {
     let [_, rest @ ..] = names else {
         return Ok(numbers);
     };
     text.the(b",")?;
-    let node = number(text, scope, nodes)?;
+    let node = row_number(text, scope, nodes)?;
     let numbers = with_node(numbers, node)?;
     more_numbers(text, scope, nodes, rest, numbers)
 }
@@ -64,13 +63,13 @@ fn some_numbers(
     nodes: &mut Arena,
     names: &[Word],
 ) -> Result<Fields, LineError>
-    ensures { ReadsNumbers (reader.each_of (expression.a_number (layers_in scope.now) (named_in scope.now)) names.now
+    ensures { ReadsNumbers (reader.each_of (operation.a_row_number (layers_in scope.now) (named_in scope.now)) names.now
         (left text.old)) nodes.old nodes.new (left text.new) [] result }
 {
     let [_, rest @ ..] = names else {
         return Ok(Fields::new());
     };
-    let node = number(text, scope, nodes)?;
+    let node = row_number(text, scope, nodes)?;
     let numbers = with_node(Fields::new(), node)?;
     more_numbers(text, scope, nodes, rest, numbers)
 }
@@ -82,7 +81,7 @@ pub(crate) fn row_numbers(
     nodes: &mut Arena,
     items: Option<&Items>,
 ) -> Result<Fields, LineError>
-    ensures { ReadsNumbers (reader.each_of (expression.a_number (layers_in scope.now) (named_in scope.now))
+    ensures { ReadsNumbers (reader.each_of (operation.a_row_number (layers_in scope.now) (named_in scope.now))
         (items_shown items.entry).numbers (left text.old)) nodes.old nodes.new (left text.new) [] result }
 {
     match items {

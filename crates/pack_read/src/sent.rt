@@ -1,114 +1,89 @@
-//! What is sent: numbers, and a message with its known headers.
+//! What is put out besides its numbers: a message with its known headers.
 
-ghost use Rattle.std.specs.Prelude.{◌≡◌, ◌+◌, ◌<◌, ◌≤◌, ◌∷◌, ◌++◌, [], length, option_map};
-ghost use Rattle.msg_core.specs.Headers.{most_fields};
+ghost use Rattle.std.specs.Prelude.{◌≡◌, option_map};
+ghost use Rattle.layer_mean.specs.Event as event;
 ghost use Rattle.pack_mean.specs.Operation as operation;
 ghost use Rattle.trace_core.specs.View.{core_tree};
-ghost use Rattle.pack_words.specs.Names.{words_in};
 ghost use Rattle.pack_words.specs.Reading.{left};
 ghost use Rattle.pack_words.specs.View.{layers_in, named_in};
-ghost use Rattle.pack_read.specs.Operations.{ReadsMessage, ReadsSent};
+ghost use Rattle.pack_read.specs.Operations.{ReadsChain, ReadsMessage, TakesAs};
 
+use crate::atoms::core;
 use crate::chain::chain;
-use crate::header::MOST_FIELDS;
-use pack_words::{LineError, Name, Scope, Text, atom_named, core_named};
-use trace_core::{Atom, Atoms, Chained, Core, Links};
+use layer_words::{Dir, Kind};
+use pack_words::{LineError, Scope, Text};
+use trace_core::{Chained, Core, Links};
 
-/// What stands in the brackets of an output: numbers, and a message after these where it has one.
-#[derive(Clone, Copy)]
-pub(crate) struct Sent {
-    pub(crate) numbers: Atoms,
-    pub(crate) message: Option<Core>,
-}
-
-/// These numbers, and after them the message of this name.
-fn with_message(
-    _text: &Text<'_>,
-    scope: &Scope<'_>,
-    numbers: Atoms,
-    name: Name<'_>,
-) -> Result<Sent, LineError>
-    ensures { ReadsSent (operation.a_last (named_in scope.now) (words_in name.entry) (left _text.now)) numbers result
-        (left _text.now) }
+/// How many numbers an event of a kind has.
+pub(crate) fn numbers_of(kind: Kind) -> u8
+    ensures { result ≡ operation.numbers_of kind }
 {
-    match core_named(scope, name) {
-        Some(core) => Ok(Sent {
-            numbers,
-            message: Some(core),
-        }),
-        None => Err(LineError::Form),
+    match kind {
+        Kind::Stable | Kind::Ack => 2,
+        _ => 1,
     }
 }
 
-/// One number after others.
-fn with_number(numbers: Atoms, atom: Atom) -> Atoms
-    requires { length numbers < most_fields }
-    ensures { result ≡ numbers ++ atom ∷ [] }
+/// Whether the events of a kind have a message.
+fn carries(kind: Kind) -> bool
+    ensures { result ≡ event.carries kind }
 {
-    let mut numbers = numbers;
-    numbers.push(atom);
-    numbers
+    match kind {
+        Kind::Cast | Kind::Send => true,
+        _ => false,
+    }
 }
 
-/// At most `most` numbers after these, and a message.
-#[tactic(auto, using(crate::proofs::OperationRules::of_sent_within))]
-fn sent_within(
+/// The message of an event after its numbers, where its kind has one.
+pub(crate) fn event_message(
     text: &mut Text<'_>,
     scope: &Scope<'_>,
-    most: u32,
-    numbers: Atoms,
-) -> Result<Sent, LineError>
-    requires { length numbers + most ≤ most_fields }
-    ensures { ReadsSent (operation.sent_within (named_in scope.now) most (left text.old)) numbers result
-        (left text.new) }
+    kind: Kind,
+) -> Result<Option<Core>, LineError>
+    ensures { TakesAs (option_map core_tree) (operation.event_message (named_in scope.now) (event.carries kind)
+        (left text.old)) result (left text.new) }
 {
-    let name = text.name();
-    if most == 0 {
-        return with_message(text, scope, numbers, name);
-    }
-    match atom_named(scope, name)? {
-        Some(atom) => {
-            let numbers = with_number(numbers, atom);
-            if !text.is_next(b",") {
-                return Ok(Sent {
-                    numbers,
-                    message: None,
-                });
-            }
-            text.the(b",")?;
-            sent_within(text, scope, most - 1, numbers)
-        }
-        None => with_message(text, scope, numbers, name),
+    if carries(kind) {
+        text.the(b",")?;
+        let core = core(text, scope)?;
+        Ok(Some(core))
+    } else {
+        Ok(None)
     }
 }
 
-/// What is sent, before the bracket after it.
-pub(crate) fn what_is_sent(text: &mut Text<'_>, scope: &Scope<'_>) -> Result<Sent, LineError>
-    ensures { ReadsSent (operation.what_is_sent (named_in scope.now) (left text.old)) [] result (left text.new) }
+/// The known headers of what is put out in a direction; the number of their chain.
+#[tactic(auto, using(crate::proofs::Chaining::no_chain))]
+fn chain_towards(
+    text: &mut Text<'_>,
+    scope: &Scope<'_>,
+    links: &mut Links,
+    dir: Dir,
+) -> Result<u32, LineError>
+    ensures { ReadsChain (operation.chain_towards (layers_in scope.now) (named_in scope.now) dir (left text.old))
+        links.old links.new (left text.new) result }
 {
-    if text.is_next(b")") {
-        return Ok(Sent {
-            numbers: Atoms::new(),
-            message: None,
-        });
+    match dir {
+        Dir::Up => Ok(0),
+        Dir::Down => chain(text, scope, links, 0),
     }
-    sent_within(text, scope, MOST_FIELDS, Atoms::new())
 }
 
-/// The message that is sent, with its known headers after the bracket.
+/// The message that is put out, with its known headers after the bracket.
 pub(crate) fn sent_message(
     text: &mut Text<'_>,
     scope: &Scope<'_>,
     links: &mut Links,
+    dir: Dir,
     message: Option<Core>,
 ) -> Result<Option<Chained>, LineError>
-    ensures { ReadsMessage (operation.chained_after (layers_in scope.now) (named_in scope.now)
+    ensures { ReadsMessage (operation.chained_after (layers_in scope.now) (named_in scope.now) dir
         (option_map core_tree message) (left text.old)) links.old links.new (left text.new) result }
 {
     match message {
         None => Ok(None),
         Some(core) => {
-            let chain = chain(text, scope, links, 0)?;
+            let chain = chain_towards(text, scope, links, dir)?;
             Ok(Some(Chained { chain, core }))
         }
     }

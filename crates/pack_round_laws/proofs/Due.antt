@@ -81,7 +81,8 @@ module _ (stack : List LayerTree) (can : CanBePacked stack) where
         closed = subst (λ k. Closed stack (at_first k) own) (sym vary)
             (traces_are_closed case stack e.known e.fields own made);
         there = traces_name_well case stack e.known e.fields own can.sound.named made;
-        fits = traces_fit stack can.layers_fit case e.known e.fields own good.fits.chain made;
+        fits = traces_fit stack can.layers_fit case e.known e.fields own good.entry.carried
+            good.fits.chain made;
         few = omega (arith, long, few);
         long = omega (arith, long, few, notes, all);
         fields = omega (arith, vary, fields);

@@ -2,9 +2,11 @@
 use Rattle.std.specs.Prelude.{◌≡◌, ℕ, suc, ◌+◌, ◌<◌, ◌≤◌, List, [], ◌∷◌, length, slice_index_or, Option, Some, None}
 use Rattle.std.specs.Prelude.{option_map, is_some, true}
 use Rattle.std.specs.List.{AllByRecursion}
+use Rattle.layer_words.specs.declared.events.Dir.{Dir}
+use Rattle.layer_words.specs.declared.events.Dir.TheVariants.{Up, Down}
+use Rattle.layer_mean.specs.Event.{carries}
 use Rattle.layer_mean.specs.Headers.{header_of_tag}
 use Rattle.layer_mean.specs.Tree.{Carried, ItemsTree, LayerTree}
-use Rattle.msg_core.specs.Headers.{most_fields}
 use Rattle.trace_mean.specs.Trace.{Atom, number, Core, taken_message, TraceNumber, atom, me, count, ltime, element}
 use Rattle.trace_mean.specs.Trace.{square, rows, item, size, binary, apply, pick, TraceMessage, core, held, cut, tail}
 use Rattle.trace_mean.specs.Trace.{join, Link, Chained, Operation, bind, note, check, set, set_square, push, take}
@@ -13,6 +15,7 @@ use Rattle.trace_mean.specs.Fuse.{fields_of}
 use Rattle.bypass_mean.specs.Text.{layer_of}
 use Rattle.pack_mean.specs.Expression.{most_brackets}
 use Rattle.pack_mean.specs.Named.{items_at, no_items}
+use Rattle.pack_mean.specs.Operation.{numbers_of}
 
 -- The largest number that is read.
 abbrev pub largest_number : ℕ
@@ -79,9 +82,11 @@ pub record ChainedFits (stack : List LayerTree) (taken : List ItemsTree) (place 
   pub core_fits : CoreFits taken m.core
   pub chain_fits : ChainFits stack place m.chain
 
-abbrev pub SentFits : List LayerTree → List ItemsTree → Option Chained → Type 0
-SentFits stack taken None = Unit {0}
-SentFits stack taken (Some m) = ChainedFits stack taken 0 m
+-- What goes down has its known headers from the lowest place on; what goes up has none.
+abbrev pub SentFits : List LayerTree → List ItemsTree → Dir → Option Chained → Type 0
+SentFits stack taken dir None = Unit {0}
+SentFits stack taken Down (Some m) = ChainedFits stack taken 0 m
+SentFits stack taken Up (Some m) = CoreFits taken m.core × (m.chain ≡ [])
 
 -- A row has a message where the rows of its queue have one.
 abbrev pub RowFits : List LayerTree → List ItemsTree → ℕ → Option (List ℕ × Carried) → Option Chained → Type 0
@@ -93,9 +98,9 @@ RowFits stack taken place _ _ = ⊥
 abbrev pub index_brackets : ℕ
 index_brackets = 199
 
--- An operation, after which these rows were taken: a row that is pushed has as many numbers as its queue's rows, and
--- what is put out has at most as many as an event has; its known headers stand from the lowest place on, and those of a
--- row from the place above its queue.
+-- An operation, after which these rows were taken: a row that is pushed has as many numbers as its queue's rows, which
+-- stand in its bracket, and known headers from the place above its queue on; what is put out has as many numbers as its
+-- kind, and a message where that carries one.
 abbrev pub OperationFits : List LayerTree → List ItemsTree → Operation → Type 0
 OperationFits stack taken (bind e) = NumberFits stack taken most_brackets e
 OperationFits stack taken (note m) = MessageFits stack taken most_brackets m
@@ -106,9 +111,10 @@ OperationFits stack taken (set_square p c row column x) =
     NumberFits stack taken index_brackets row × NumberFits stack taken index_brackets column ×
     NumberFits stack taken most_brackets x
 OperationFits stack taken (push p c e numbers message) =
-    NumberFits stack taken index_brackets e × AllByRecursion (NumberFits stack taken most_brackets) numbers ×
+    NumberFits stack taken index_brackets e × AllByRecursion (NumberFits stack taken index_brackets) numbers ×
     (length numbers ≡ length (items_at stack p c).numbers) × RowFits stack taken (p + 1) (items_at stack p c).message
     message
 OperationFits stack taken (take p c e) = NumberFits stack taken index_brackets e
 OperationFits stack taken (output dir kind numbers message) =
-    (length numbers ≤ most_fields) × AllByRecursion AtomFits numbers × SentFits stack taken message
+    (length numbers ≡ numbers_of kind) × (is_some message ≡ carries kind) × AllByRecursion AtomFits numbers ×
+    SentFits stack taken dir message

@@ -4,14 +4,15 @@ use Rattle.std.specs.List.{AllByRecursion}
 use Rattle.layer_words.specs.declared.events.Dir.{Dir}
 use Rattle.layer_words.specs.declared.events.Dir.TheVariants.{Up, Down}
 use Rattle.layer_mean.specs.declared.run.Case.{Case}
+use Rattle.layer_mean.specs.Event.{carries}
 use Rattle.layer_mean.specs.Headers.{header_of_tag}
 use Rattle.layer_mean.specs.Tree.{Carried, ExpressionTree, number, me, count, ltime, local, element, square, rows, item}
 use Rattle.layer_mean.specs.Tree.{size, binary, apply, pick, MessageTree, message, nothing, held, cut, tail, join}
 use Rattle.layer_mean.specs.Tree.{ContentTree, EmissionTree, RowTree, ItemsTree, HandlerTree, LayerTree}
 use Rattle.layer_mean.specs.Way.{Step, test, fork, set_slot, set_number, set_square, put, get, send, loop, handler_way}
-use Rattle.msg_core.specs.Headers.{most_fields}
 use Rattle.trace_mean.specs.Fuse.{form_at, fields_of}
 use Rattle.pack_mean.specs.Named.{items_in, no_items}
+use Rattle.pack_mean.specs.Operation.{numbers_of}
 use Rattle.std.specs.Option.{unwrap_or}
 use Rattle.pack_round_laws.proofs.Fits.{largest_number, Carries}
 
@@ -91,8 +92,10 @@ abbrev pub SentContentFits : LayerTree → Dir → Option ContentTree → Type 0
 SentContentFits layer dir None = Unit {0}
 SentContentFits layer dir (Some c) = ContentFits layer dir c
 
+-- An emission has as many numbers as its kind, and a message where that carries one.
 pub record EmissionFits (layer : LayerTree) (e : EmissionTree) : Type 0 where
-  pub few : length e.numbers ≤ most_fields
+  pub count : length e.numbers ≡ numbers_of e.kind
+  pub carried : is_some e.content ≡ carries e.kind
   pub numbers_fit : AllByRecursion (Fits layer) e.numbers
   pub content_fits : SentContentFits layer e.direction e.content
 

@@ -1,11 +1,12 @@
 -- Operations are read back from their lines.
-use Rattle.std.proofs.Common.{◌≡◌, ℕ, zero, suc, ◌+◌, ◌<◌, ◌≤◌, true, not, ◌==◌, List, [], ◌∷◌, ◌++◌, map, length}
+use Rattle.std.proofs.Common.{◌≡◌, ℕ, zero, suc, ◌+◌, ◌<◌, ◌≤◌, Bool, true, false, not, ◌==◌, List, [], ◌∷◌, ◌++◌}
+use Rattle.std.proofs.Common.{map, length, is_some, replicate}
 use Rattle.std.proofs.Common.{Option, Some, None, option_map, option_and_then, option_to_list, codes, decimal, refl}
 use Rattle.std.proofs.Common.{sym, ap, ◌∙◌, subst, arith, append_assoc, append-nil}
 use Rattle.std.specs.Prelude.{if◌then◌else◌}
 use Rattle.std.specs.List.{AllByRecursion, list_all}
 use Rattle.std.specs.Option.{option_map_or}
-use Rattle.std.proofs.lemmas.List.{length-map}
+use Rattle.std.proofs.lemmas.List.{length-map, length-replicate}
 use Rattle.std.proofs.lemmas.List.FromFn.{get_or-map-range_with_len}
 use Rattle.layer_words.specs.declared.events.Dir.{Dir}
 use Rattle.layer_words.specs.declared.events.Dir.TheVariants.{Up, Down}
@@ -13,8 +14,8 @@ use Rattle.layer_words.specs.declared.events.Kind.{Kind}
 use Rattle.layer_words.specs.declared.events.Kind.TheVariants as kind
 use Rattle.layer_words.specs.Signs.{direction_sign}
 use Rattle.layer_words.specs.Spelling.{beside, kinds, kind_word, reserved, symbols}
+use Rattle.layer_mean.specs.Event.{carries}
 use Rattle.layer_mean.specs.Tree.{Carried, ItemsTree, LayerTree}
-use Rattle.msg_core.specs.Headers.{most_fields}
 use Rattle.trace_mean.specs.Trace as trace
 use Rattle.trace_mean.specs.Trace.{Atom, number, Core, body, noted}
 use Rattle.trace_mean.specs.Trace.{taken_message, nothing, TraceNumber, element, square, TraceMessage, Link, Chained}
@@ -33,8 +34,8 @@ use Rattle.pack_mean.specs.Reader.{each_of}
 use Rattle.pack_mean.specs.Named.{Named, items_at, atom_named, core_named, cell_named, kind_named}
 use Rattle.pack_mean.specs.Expression.{QueueNamed, Inner, inside, most_brackets, number_of_cell, a_cell, a_number}
 use Rattle.pack_mean.specs.Expression.{a_message, a_queue}
-use Rattle.pack_mean.specs.Operation.{a_chain, a_chained, row_message, Sent, nothing_sent, with_number, a_last}
-use Rattle.pack_mean.specs.Operation.{or_no_more, sent_by, sent_within, what_is_sent, chained_after}
+use Rattle.pack_mean.specs.Operation.{an_atom, a_core, a_chain, a_chained, row_message, numbers_of, event_message}
+use Rattle.pack_mean.specs.Operation.{chained_after, a_row_number}
 use Rattle.layer_words.specs.Signs.{directions}
 use Rattle.pack_mean.specs.Operation.{setting, operation_by, operation_said}
 use Rattle.pack_laws.specs.Written.{note_name, written_with, line_with}
@@ -50,7 +51,7 @@ use Rattle.pack_round_laws.proofs.Front.{Stops, run_back, Leads, leads_not, lead
 use Rattle.pack_round_laws.proofs.Names.{IsSmall, Messages, atom_names, core_names, cell_names, finds_name, finds_word}
 use Rattle.pack_round_laws.proofs.Numbers.{atom_leads, Reads, After, element_after, square_after, queue_back}
 use Rattle.pack_round_laws.proofs.Numbers.{number_back, message_back}
-use Rattle.pack_round_laws.proofs.Chains.{commas_stop, each_back, chain_back, chained_back}
+use Rattle.pack_round_laws.proofs.Chains.{commas_stop, core_back, each_back, all_atoms, chain_back, chained_back}
 
 -- directions and kinds
 direction_back : (dir : Dir) → beside directions (sign_text (direction_sign dir)) ≡ Some dir
@@ -89,9 +90,15 @@ push_any s q b o p c rest = simp append_assoc refl
 take_any : (s q r n rest : List ℕ) → s ++ q ++ r ++ n ++ rest ≡ s ++ (q ++ ((r ++ n) ++ rest))
 take_any s q r n rest = simp append_assoc refl
 
-output_any : (s d b k o p c h rest : List ℕ) → s ++ d ++ b ++ k ++ (o ++ p ++ c) ++ h ++ rest ≡ s ++
-    (d ++ (b ++ (k ++ (o ++ (p ++ (c ++ (h ++ rest)))))))
-output_any s d b k o p c h rest = simp append_assoc refl
+output_any : (s d b k o p q c h rest : List ℕ) → s ++ d ++ b ++ k ++ (o ++ (p ++ q) ++ c) ++ h ++ rest ≡ s ++
+    (d ++ (b ++ (k ++ (o ++ (p ++ (q ++ (c ++ (h ++ rest))))))))
+output_any s d b k o p q c h rest = simp append_assoc refl
+
+-- an event has a number
+some_numbers : (k : Kind) → numbers_of k ≡ 0 → ⊥
+some_numbers kind.Stable none = absurd (omega (arith, none))
+some_numbers kind.Ack none = absurd (omega (arith, none))
+some_numbers _ none = absurd (omega (arith, none))
 
 module _ (stack : List LayerTree) (told : AreToldApart stack) (few : length stack ≤ largest_number)
     (before : List (List ℕ)) (s : Named)
@@ -122,99 +129,32 @@ module _ (stack : List LayerTree) (told : AreToldApart stack) (few : length stac
     made : AllByRecursion (λ c. CoreIsMade (reach_of s) c) (option_to_list o)
     fits : AllByRecursion (λ c. CoreFits s.rows c) (option_to_list o)
 
-  abbrev Parts : List Atom → Option Core → List (List ℕ)
-  Parts numbers o = map AtomText numbers ++ map CoreText (option_to_list o)
+  message_after : (has : Bool) (o : Option Core) (rest : List ℕ) → is_some o ≡ has → SentCore o →
+      Finds (event_message s has) (after_commas (map CoreText (option_to_list o)) ++ (41 ∷ rest)) o (41 ∷ rest)
+  message_after false None rest is core = finds_value None (41 ∷ rest)
+  message_after true None rest is core = absurd (cc is)
+  message_after false (Some c) rest is core = absurd (cc is)
+  message_after true (Some c) rest is core =
+      finds_same (event_message s true) _ (codes "," ++ (CoreText c ++ (41 ∷ rest))) (Some c) (41 ∷ rest)
+      (ap (λ l. l ++ (41 ∷ rest)) (append-nil (codes "," ++ CoreText c)))
+      (finds_text (codes ",") (λ u. a_core s >>= λ x. yields (Some x)) _ _ _
+      (finds_then (a_core s) (λ x. yields (Some x)) _ c _ _ _
+      ((core_back stack told few before s small c core.made.0 core.fits.0).said (41 ∷ rest) refl)
+      (finds_value (Some c) (41 ∷ rest))))
 
-  abbrev SomeSent : List Atom → Option Core → Type 0
-  SomeSent [] None = ⊥
-  SomeSent _ _ = Unit {0}
+  numbers_before : (k : Kind) (numbers : List Atom) (rest : List ℕ) → AllByRecursion Made numbers →
+      AllByRecursion AtomFits numbers → length numbers ≡ numbers_of k → Stops is_name_byte rest →
+      Finds (each_of {B = ℕ} (an_atom s) (replicate (numbers_of k) 0)) (parted (map AtomText numbers) ++ rest) numbers
+      rest
+  numbers_before k numbers rest made fits count stops =
+      each_back stack told few before s small (an_atom s) AtomText numbers (replicate (numbers_of k) 0) rest
+      (count ∙ sym (length-replicate {A = ℕ} (numbers_of k) 0))
+      (all_atoms stack told few before s small numbers made fits) stops
 
-  last_back : (c : Core) (rest : List ℕ) → CoreIsMade (reach_of s) c → CoreFits s.rows c → Stops is_name_byte rest →
-      (left : ℕ) → Finds (sent_within s left) (CoreText c ++ rest) (record { numbers = []; message = Some c }) rest
-  last_back c rest made fits stops left = go left where
-    x : Messages before s small c
-    x = core_names before s small c made fits
-
-    last : Finds (a_last s (x.names.first ∷ x.names.more)) rest (record { numbers = []; message = Some c }) rest
-    last = finds_given (core_named s (x.names.first ∷ x.names.more))
-        (λ c. yields (record { numbers = []; message = Some c })) rest c _ rest x.names.said
-        (finds_value (record { numbers = []; message = Some c }) rest)
-
-    go : (left : ℕ) → Finds (sent_within s left) (CoreText c ++ rest) (record { numbers = []; message = Some c }) rest
-    go zero = finds_name (core_named s) (CoreText c) c x.names (λ name. a_last s name) rest _ rest stops last
-    go (suc left) = finds_name (core_named s) (CoreText c) c x.names
-        (λ name. sent_by s (sent_within s left) name (atom_named s name)) rest _ rest stops
-        (subst (λ o. Finds (sent_by s (sent_within s left) (x.names.first ∷ x.names.more) o) rest
-        (record { numbers = []; message = Some c }) rest)
-        (sym x.no_number) last)
-
-  -- after a number
-  more_sent : (more : Reader Sent) (numbers : List Atom) (o : Option Core) (rest : List ℕ) →
-      (SomeSent numbers o →
-      Finds more (parted (Parts numbers o) ++ (41 ∷ rest)) (record { numbers = numbers; message = o }) (41 ∷ rest)) →
-      Finds (or_no_more more) (after_commas (Parts numbers o) ++ (41 ∷ rest))
-      (record { numbers = numbers; message = o }) (41 ∷ rest)
-  more_sent more [] None rest h = record { said = refl }
-  more_sent more [] (Some c) rest h = record { said = (finds_text (codes ",") (λ u. more) _ _ _ (h tt)).said }
-  more_sent more (a ∷ numbers) o rest h = record { said = (finds_text (codes ",") (λ u. more) _ _ _ (h tt)).said }
-
-  sent_back : (left : ℕ) (numbers : List Atom) (o : Option Core) (rest : List ℕ) → length numbers ≤ left →
-      AllByRecursion Made numbers →
-      AllByRecursion AtomFits numbers → SentCore o → SomeSent numbers o →
-      Finds (sent_within s left) (parted (Parts numbers o) ++ (41 ∷ rest)) (record { numbers = numbers; message = o })
-      (41 ∷ rest)
-  sent_back left [] None rest most made fits core some = absurd some
-  sent_back left [] (Some c) rest most made fits core some =
-      finds_same (sent_within s left) _ _ _ (41 ∷ rest) (ap (λ l. l ++ (41 ∷ rest)) (append-nil (CoreText c)))
-      (last_back c (41 ∷ rest) core.made.0 core.fits.0 refl left)
-  sent_back zero (a ∷ numbers) o rest most made fits core some = absurd (omega (arith, most))
-  sent_back (suc left) (a ∷ numbers) o rest most made fits core some =
-      let x = atom_names before s small a made.0 fits.0 in
-      finds_same (sent_within s (suc left)) _ _ _ (41 ∷ rest)
-      (append_assoc (AtomText a) (after_commas (Parts numbers o)) (41 ∷ rest))
-      (finds_name (atom_named s) (AtomText a) a x (λ name. sent_by s (sent_within s left) name (atom_named s name)) _ _
-      (41 ∷ rest)
-      (commas_stop (Parts numbers o) (41 ∷ rest) refl)
-      (subst (λ q. Finds (sent_by s (sent_within s left) (x.first ∷ x.more) q)
-      (after_commas (Parts numbers o) ++ (41 ∷ rest))
-      (record { numbers = a ∷ numbers; message = o }) (41 ∷ rest)) (sym x.said)
-      (finds_then (or_no_more (sent_within s left)) (λ sent. yields (with_number a sent)) _
-      (record { numbers = numbers; message = o }) _ _ _
-      (more_sent (sent_within s left) numbers o rest
-      (sent_back left numbers o rest (omega (arith, most)) made.1 fits.1 core))
-      (finds_value (record { numbers = a ∷ numbers; message = o }) (41 ∷ rest)))))
-
-  core_leads : (c : Core) → CoreIsMade (reach_of s) c → Leads (CoreText c)
-  core_leads body made = refl
-  core_leads nothing made = refl
-  core_leads (noted n) made =
-      subst Leads (sym (get_or-map-range_with_len note_name 0 s.notes n n [] made (omega arith))) refl
-  core_leads (taken_message row carried) made = refl
-
-  opened : (numbers : List Atom) (o : Option Core) (rest : List ℕ) → Leads (parted (Parts numbers o)) →
-      Finds (sent_within s most_fields) (parted (Parts numbers o) ++ (41 ∷ rest))
-      (record { numbers = numbers; message = o }) (41 ∷ rest) →
-      Finds (what_is_sent s) (parted (Parts numbers o) ++ (41 ∷ rest)) (record { numbers = numbers; message = o })
-      (41 ∷ rest)
-  opened numbers o rest leads h = record {
-    said = ap (λ q. if q then Some (nothing_sent, parted (Parts numbers o) ++ (41 ∷ rest)) else sent_within
-        s most_fields
-        (parted (Parts numbers o) ++ (41 ∷ rest)))
-        (leads_not 41 (parted (Parts numbers o)) (41 ∷ rest) refl leads) ∙ h.said;
-  }
-
-  what_back : (numbers : List Atom) (o : Option Core) (rest : List ℕ) → length numbers ≤ most_fields →
-      AllByRecursion Made numbers →
-      AllByRecursion AtomFits numbers → SentCore o →
-      Finds (what_is_sent s) (parted (Parts numbers o) ++ (41 ∷ rest)) (record { numbers = numbers; message = o })
-      (41 ∷ rest)
-  what_back [] None rest most made fits core = record { said = refl }
-  what_back [] (Some c) rest most made fits core =
-      opened [] (Some c) rest (leads_more (CoreText c) [] (core_leads c core.made.0))
-      (sent_back most_fields [] (Some c) rest most made fits core tt)
-  what_back (a ∷ numbers) o rest most made fits core = opened (a ∷ numbers) o rest
-      (leads_more (AtomText a) _ (atom_leads stack told few before s small a made.0 fits.0))
-      (sent_back most_fields (a ∷ numbers) o rest most made fits core tt)
+  sent_text : (k : Kind) (numbers : List Atom) (cores : List (List ℕ)) → length numbers ≡ numbers_of k →
+      parted (map AtomText numbers ++ cores) ≡ parted (map AtomText numbers) ++ after_commas cores
+  sent_text k [] cores count = absurd (some_numbers k (sym count))
+  sent_text k (a ∷ numbers) cores count = sym (parted_more (AtomText a) (map AtomText numbers) cores)
 
   -- an operation after its word
   abbrev Line : Reader Operation
@@ -241,10 +181,10 @@ module _ (stack : List LayerTree) (told : AreToldApart stack) (few : length stac
   an_index e made there fits = number_back stack told few before s small index_brackets e made there fits
 
   all_numbers : (xs : List TraceNumber) → AllByRecursion MadeNumber xs → AllByRecursion ThereNumber xs →
-      AllByRecursion (NumberFits stack s.rows most_brackets) xs →
-      AllByRecursion (λ e. Reading (a_number stack s) (NumberText e) e) xs
+      AllByRecursion (NumberFits stack s.rows index_brackets) xs →
+      AllByRecursion (λ e. Reading (a_row_number stack s) (NumberText e) e) xs
   all_numbers [] made there fits = tt
-  all_numbers (x ∷ xs) made there fits = (any_number x made.0 there.0 fits.0, all_numbers xs made.1 there.1 fits.1)
+  all_numbers (x ∷ xs) made there fits = (an_index x made.0 there.0 fits.0, all_numbers xs made.1 there.1 fits.1)
 
   abbrev LineText : Operation → List ℕ
   LineText o = line_with stack before s o
@@ -350,13 +290,13 @@ module _ (stack : List LayerTree) (told : AreToldApart stack) (few : length stac
       the_text (codes ")") >>= λ v. yields (push q.place q.cell q.index numbers message)
 
   abbrev Rows : QueueNamed → Reader Operation
-  Rows q = each_of (a_number stack s) (items_at stack q.place q.cell).numbers >>= Pushing q
+  Rows q = each_of (a_row_number stack s) (items_at stack q.place q.cell).numbers >>= Pushing q
 
   row_back : (p c : ℕ) (e : TraceNumber) (xs : List TraceNumber) (message : Option Chained) (names : List (List ℕ)) →
       (items_at stack p c).numbers ≡ names → length xs ≡ length names → AllByRecursion
-      (λ x. Reading (a_number stack s) (NumberText x) x) xs → MadeSent message →
+      (λ x. Reading (a_row_number stack s) (NumberText x) x) xs → MadeSent message →
       RowFits stack s.rows (p + 1) (items_at stack p c).message message →
-      Finds (each_of (a_number stack s) names >>= Pushing (record { place = p; cell = c; index = e }))
+      Finds (each_of (a_row_number stack s) names >>= Pushing (record { place = p; cell = c; index = e }))
       (parted (map NumberText xs ++ map PushedText (option_to_list message)) ++ codes ")") (push p c e xs message) []
   row_back p c e xs message names is same each made fits = go names xs is same each where
     ends : (ns : List (List ℕ)) (ys : List TraceNumber) → (items_at stack p c).numbers ≡ ns →
@@ -370,10 +310,10 @@ module _ (stack : List LayerTree) (told : AreToldApart stack) (few : length stac
         (finds_text (codes ")") (λ v. yields (push p c e ys message)) [] _ _ (finds_value (push p c e ys message) []))
 
     go : (ns : List (List ℕ)) (ys : List TraceNumber) → (items_at stack p c).numbers ≡ ns → length ys ≡ length ns →
-        AllByRecursion (λ x. Reading (a_number stack s) (NumberText x) x) ys →
-        Finds (each_of {B = List ℕ} (a_number stack s) ns >>= Pushing (record { place = p; cell = c; index = e }))
+        AllByRecursion (λ x. Reading (a_row_number stack s) (NumberText x) x) ys →
+        Finds (each_of {B = List ℕ} (a_row_number stack s) ns >>= Pushing (record { place = p; cell = c; index = e }))
         (parted (map NumberText ys ++ map PushedText (option_to_list message)) ++ codes ")") (push p c e ys message) []
-    go [] [] is same each = finds_then (each_of {B = List ℕ} (a_number stack s) [])
+    go [] [] is same each = finds_then (each_of {B = List ℕ} (a_row_number stack s) [])
         (Pushing (record { place = p; cell = c; index = e })) _ [] _ _ _
         (finds_value [] (parted (map PushedText (option_to_list message)) ++ codes ")")) (ends [] [] is)
     go [] (y ∷ ys) is same each = absurd (omega (arith, same))
@@ -383,9 +323,9 @@ module _ (stack : List LayerTree) (told : AreToldApart stack) (few : length stac
         (ap (λ l. l ++ codes ")")
         (sym (parted_more (NumberText y) (map NumberText ys) (map PushedText (option_to_list message)))) ∙
         append_assoc (parted (map NumberText (y ∷ ys))) (RowText (n ∷ ns) message) (codes ")"))
-        (finds_then (each_of {B = List ℕ} (a_number stack s) (n ∷ ns))
+        (finds_then (each_of {B = List ℕ} (a_row_number stack s) (n ∷ ns))
         (Pushing (record { place = p; cell = c; index = e })) _ (y ∷ ys) _ _ _
-        (each_back stack told few before s small (a_number stack s) NumberText (y ∷ ys) (n ∷ ns) _ same each
+        (each_back stack told few before s small (a_row_number stack s) NumberText (y ∷ ys) (n ∷ ns) _ same each
         (commas_stop (map PushedText (option_to_list message)) (codes ")") refl)) (ends (n ∷ ns) (y ∷ ys) is))
 
   abbrev QueueText : ℕ → ℕ → TraceNumber → List ℕ
@@ -394,7 +334,7 @@ module _ (stack : List LayerTree) (told : AreToldApart stack) (few : length stac
   push_back : (p c : ℕ) (e : TraceNumber) (xs : List TraceNumber) (message : Option Chained) →
       Reading (a_queue stack s) (QueueText p c e) (record { place = p; cell = c; index = e }) →
       length xs ≡ length (items_at stack p c).numbers →
-      AllByRecursion (λ x. Reading (a_number stack s) (NumberText x) x) xs → MadeSent message →
+      AllByRecursion (λ x. Reading (a_row_number stack s) (NumberText x) x) xs → MadeSent message →
       RowFits stack s.rows (p + 1) (items_at stack p c).message message → IsBack (push p c e xs message)
   push_back p c e xs message q same each made fits =
       let row = parted (map NumberText xs ++ map PushedText (option_to_list message)) in
@@ -427,18 +367,25 @@ module _ (stack : List LayerTree) (told : AreToldApart stack) (few : length stac
       (finds_text name (λ v. yields (trace.take p c e)) [] _ _ (finds_value (trace.take p c e) [])))))
 
   -- what is put out
-  sent_core : (message : Option Chained) → MadeSent message → SentFits stack s.rows message →
+  sent_core : (dir : Dir) (message : Option Chained) → MadeSent message → SentFits stack s.rows dir message →
       SentCore (option_map (λ m. m.core) message)
-  sent_core None made fits = record { made = tt; fits = tt }
-  sent_core (Some m) made fits = record { made = (made.core_is, tt); fits = (fits.core_fits, tt) }
+  sent_core dir None made fits = record { made = tt; fits = tt }
+  sent_core Down (Some m) made fits = record { made = (made.core_is, tt); fits = (fits.core_fits, tt) }
+  sent_core Up (Some m) made fits = record { made = (made.core_is, tt); fits = (fits.0, tt) }
 
-  chained_is : (message : Option Chained) → MadeSent message → SentFits stack s.rows message →
-      Finds (chained_after stack s (option_map (λ m. m.core) message))
+  bare_is : (c : Core) (chain : List Link) → chain ≡ [] →
+      Finds (chained_after stack s Up (Some c)) (AfterText chain ++ []) (Some (record { chain = chain; core = c })) []
+  bare_is c [] none = record { said = refl }
+  bare_is c (l ∷ ls) none = absurd (cc none)
+
+  chained_is : (dir : Dir) (message : Option Chained) → MadeSent message → SentFits stack s.rows dir message →
+      Finds (chained_after stack s dir (option_map (λ m. m.core) message))
       (option_map_or (λ (m : Chained). AfterText m.chain) message [] ++ []) message []
-  chained_is None made fits = finds_value None []
-  chained_is (Some m) made fits =
+  chained_is dir None made fits = finds_value None []
+  chained_is Down (Some m) made fits =
       finds_then (a_chain stack s 0) (λ chain. yields (Some (record { chain = chain; core = m.core }))) _ m.chain _ _ _
       (chain_back stack told few before s small 0 m.chain [] fits.chain_fits made.chain_is tt) (finds_value (Some m) [])
+  chained_is Up (Some m) made fits = bare_is m.core m.chain fits.1
 
   cores_are : (message : Option Chained) →
       map (λ (m : Chained). core_text (written_with before s) m.core) (option_to_list message) ≡
@@ -446,33 +393,62 @@ module _ (stack : List LayerTree) (told : AreToldApart stack) (few : length stac
   cores_are None = refl
   cores_are (Some m) = refl
 
-  abbrev Sending : Dir → Kind → Sent → Reader Operation
-  Sending dir k sent = the_text (codes ")") >>= λ v. chained_after stack s sent.message >>= λ message.
-      yields (output dir k sent.numbers message)
+  core_has : (message : Option Chained) → is_some (option_map (λ (m : Chained). m.core) message) ≡ is_some message
+  core_has None = refl
+  core_has (Some m) = refl
+
+  abbrev Sending : Dir → Kind → List Atom → Option Core → Reader Operation
+  Sending dir k numbers core = the_text (codes ")") >>= λ v. chained_after stack s dir core >>= λ message.
+      yields (output dir k numbers message)
+
+  abbrev Carrying : Dir → Kind → List Atom → Reader Operation
+  Carrying dir k numbers = event_message s (carries k) >>= Sending dir k numbers
 
   abbrev KindOf : Dir → Kind → Reader Operation
-  KindOf dir k = the_text (codes "(") >>= λ v. what_is_sent s >>= Sending dir k
+  KindOf dir k = the_text (codes "(") >>= λ v. each_of {B = ℕ} (an_atom s) (replicate (numbers_of k) 0) >>=
+      Carrying dir k
 
   abbrev KindAfter : Dir → Reader Operation
   KindAfter dir = the_text (codes " ") >>= λ u. a_name >>= λ name. option_reader (kind_named name) >>= KindOf dir
 
+  -- what stands in the brackets, and after them
+  sent_back : (dir : Dir) (k : Kind) (numbers : List Atom) (message : Option Chained) → AllByRecursion Made numbers →
+      MadeSent message → length numbers ≡ numbers_of k → is_some message ≡ carries k →
+      AllByRecursion AtomFits numbers → SentFits stack s.rows dir message →
+      Finds (each_of {B = ℕ} (an_atom s) (replicate (numbers_of k) 0) >>= Carrying dir k)
+      (parted (map AtomText numbers) ++ (after_commas (map CoreText (option_to_list (option_map (λ m. m.core) message)))
+      ++ (codes ")" ++ (option_map_or (λ (m : Chained). AfterText m.chain) message [] ++ []))))
+      (output dir k numbers message) []
+  sent_back dir k numbers message made made_sent count carried fits sent =
+      let o = option_map (λ (m : Chained). m.core) message in
+      let b = option_map_or (λ (m : Chained). AfterText m.chain) message [] in
+      finds_then (each_of {B = ℕ} (an_atom s) (replicate (numbers_of k) 0)) (Carrying dir k) _ numbers _ _ _
+      (numbers_before k numbers _ made fits count (commas_stop (map CoreText (option_to_list o)) (41 ∷ (b ++ [])) refl))
+      (finds_then (event_message s (carries k)) (Sending dir k numbers) _ o _ _ _
+      (message_after (carries k) o (b ++ []) (core_has message ∙ carried) (sent_core dir message made_sent sent))
+      (finds_text (codes ")") (λ v. chained_after stack s dir o >>= λ x. yields (output dir k numbers x)) _ _ _
+      (finds_then (chained_after stack s dir o) (λ x. yields (output dir k numbers x)) _ message _ _ _
+      (chained_is dir message made_sent sent) (finds_value (output dir k numbers message) []))))
+
   output_back : (dir : Dir) (k : Kind) (numbers : List Atom) (message : Option Chained) → AllByRecursion Made numbers →
-      MadeSent message →
-      length numbers ≤ most_fields → AllByRecursion AtomFits numbers → SentFits stack s.rows message →
+      MadeSent message → length numbers ≡ numbers_of k → is_some message ≡ carries k →
+      AllByRecursion AtomFits numbers → SentFits stack s.rows dir message →
       IsBack (output dir k numbers message)
-  output_back dir k numbers message made made_sent most fits sent =
-      let parts = parted (Parts numbers (option_map (λ m. m.core) message)) in
+  output_back dir k numbers message made made_sent count carried fits sent =
+      let ns = parted (map AtomText numbers) in
+      let cs = after_commas (map CoreText (option_to_list (option_map (λ (m : Chained). m.core) message))) in
       let b = option_map_or (λ (m : Chained). AfterText m.chain) message [] in
       let d = sign_text (direction_sign dir) in
       let kinds_back = kind_back k in
       finds_same Line _ (codes "out" ++
-      (codes " " ++ (d ++ (codes " " ++ (kind_word k ++ (codes "(" ++ (parts ++ (codes ")" ++ (b ++ []))))))))) _ []
-      (ap (λ cs. codes "out " ++ d ++ codes " " ++ kind_word k ++ bracketed_list (map AtomText numbers ++ cs) ++ b)
-      (cores_are message) ∙
-      sym (append-nil _) ∙ output_any (codes "out ") d (codes " ") (kind_word k) (codes "(") parts (codes ")") b [])
+      (codes " " ++ (d ++ (codes " " ++ (kind_word k ++ (codes "(" ++ (ns ++ (cs ++ (codes ")" ++ (b ++ []))))))))))
+      _ []
+      (ap (λ l. codes "out " ++ d ++ codes " " ++ kind_word k ++ (codes "(" ++ l ++ codes ")") ++ b)
+      (ap (λ l. parted (map AtomText numbers ++ l)) (cores_are message) ∙ sent_text k numbers _ count) ∙
+      sym (append-nil _) ∙ output_any (codes "out ") d (codes " ") (kind_word k) (codes "(") ns cs (codes ")") b [])
       (led_by (codes "out")
-      (codes " " ++ (d ++ (codes " " ++ (kind_word k ++ (codes "(" ++ (parts ++ (codes ")" ++ (b ++ [])))))))) _
-      refl refl
+      (codes " " ++ (d ++ (codes " " ++ (kind_word k ++ (codes "(" ++ (ns ++ (cs ++ (codes ")" ++ (b ++ [])))))))))
+      (output dir k numbers message) refl refl
       (finds_text (codes " ") (λ u. a_word >>= λ direction. option_reader (beside directions direction) >>= KindAfter)
       _ _ _
       (finds_then a_word (λ direction. option_reader (beside directions direction) >>= KindAfter) _ d _ _ _
@@ -481,15 +457,8 @@ module _ (stack : List LayerTree) (told : AreToldApart stack) (few : length stac
       (finds_text (codes " ") (λ u. a_name >>= λ name. option_reader (kind_named name) >>= KindOf dir) _ _ _
       (finds_word (kind_word k) (λ name. option_reader (kind_named name) >>= KindOf dir) _ _ _ kinds_back.1 refl
       (finds_given (kind_named (kind_word k ∷ [])) (KindOf dir) _ k _ _ kinds_back.0
-      (finds_text (codes "(") (λ v. what_is_sent s >>= Sending dir k) _ _ _
-      (finds_then (what_is_sent s) (Sending dir k) _
-      (record { numbers = numbers; message = option_map (λ m. m.core) message }) (codes ")" ++ (b ++ [])) _ _
-      (what_back numbers (option_map (λ m. m.core) message) (b ++ []) most made fits (sent_core message made_sent sent))
-      (finds_text (codes ")") (λ v. chained_after stack s (option_map (λ m. m.core) message) >>= λ x.
-      yields (output dir k numbers x)) _ _ _
-      (finds_then (chained_after stack s (option_map (λ m. m.core) message)) (λ x. yields (output dir k numbers x)) _
-      message _ _ _
-      (chained_is message made_sent sent) (finds_value (output dir k numbers message) []))))))))))))
+      (finds_text (codes "(") (λ v. each_of {B = ℕ} (an_atom s) (replicate (numbers_of k) 0) >>= Carrying dir k) _ _ _
+      (sent_back dir k numbers message made made_sent count carried fits sent)))))))))
 
   queue_at : (p c : ℕ) (e : TraceNumber) → p < length stack → MadeNumber e → HasQueue (layer_of stack p) c e →
       ThereNumber e →
@@ -519,8 +488,8 @@ module _ (stack : List LayerTree) (told : AreToldApart stack) (few : length stac
       push_back p c e xs message (queue_at p c e made.0 made.1 there.0 there.1 fits.0) fits.2
       (all_numbers xs made.2 there.2 fits.1) made.3 fits.3
   line_back (trace.take p c e) made there fits = take_back p c e (queue_at p c e made.0 made.1 there.0 there.1 fits)
-  line_back (output dir k numbers message) made there fits = output_back dir k numbers message made.0 made.1 fits.0
-      fits.1 fits.2
+  line_back (output dir k numbers message) made there fits =
+      output_back dir k numbers message made.0 made.1 fits.0 fits.1 fits.2 fits.3
 
   -- an operation's line says it
   pub operation_back : (o : Operation) → OperationNames (IsMade stack (reach_of s)) o →

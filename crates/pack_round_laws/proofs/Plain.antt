@@ -367,10 +367,10 @@ module _ (stack : List LayerTree) (told : AreToldApart stack) (few : length stac
       (parts_plain (link_text stack AtomText) (codes "/") (l ∷ ls) refl (links_plain place (l ∷ ls) fits made))
 
   all_plain : (xs : List TraceNumber) → AllByRecursion MadeNumber xs → AllByRecursion ThereNumber xs →
-      AllByRecursion (NumberFits stack s.rows most_brackets) xs → AllByRecursion IsPlain (map NumberText xs)
+      AllByRecursion (NumberFits stack s.rows index_brackets) xs → AllByRecursion IsPlain (map NumberText xs)
   all_plain [] made there fits = tt
   all_plain (x ∷ xs) made there fits =
-      (number_plain most_brackets x made.0 there.0 fits.0, all_plain xs made.1 there.1 fits.1)
+      (number_plain index_brackets x made.0 there.0 fits.0, all_plain xs made.1 there.1 fits.1)
 
   pushed_plain : (place : ℕ) (carried : Option (List ℕ × Carried)) (message : Option Chained) →
       SentNames (IsMade stack (reach_of s)) message →
@@ -386,17 +386,20 @@ module _ (stack : List LayerTree) (told : AreToldApart stack) (few : length stac
     tt,
   )
 
-  cores_plain : (message : Option Chained) → SentNames (IsMade stack (reach_of s)) message →
-      SentFits stack s.rows message →
+  cores_plain : (dir : Dir) (message : Option Chained) → SentNames (IsMade stack (reach_of s)) message →
+      SentFits stack s.rows dir message →
       AllByRecursion IsPlain (map (λ (m : Chained). core_text (written_with before s) m.core) (option_to_list message))
-  cores_plain None made fits = tt
-  cores_plain (Some m) made fits = (core_plain m.core made.core_is fits.core_fits, tt)
+  cores_plain dir None made fits = tt
+  cores_plain Down (Some m) made fits = (core_plain m.core made.core_is fits.core_fits, tt)
+  cores_plain Up (Some m) made fits = (core_plain m.core made.core_is fits.0, tt)
 
-  chain_plain : (message : Option Chained) → SentNames (IsMade stack (reach_of s)) message →
-      SentFits stack s.rows message →
+  chain_plain : (dir : Dir) (message : Option Chained) → SentNames (IsMade stack (reach_of s)) message →
+      SentFits stack s.rows dir message →
       IsPlain (option_map_or (λ (m : Chained). following stack (written_with before s) m.chain) message [])
-  chain_plain None made fits = refl
-  chain_plain (Some m) made fits = after_plain 0 m.chain fits.chain_fits made.chain_is
+  chain_plain dir None made fits = refl
+  chain_plain Down (Some m) made fits = after_plain 0 m.chain fits.chain_fits made.chain_is
+  chain_plain Up (Some m) made fits =
+      subst (λ chain. IsPlain (following stack (written_with before s) chain)) (sym fits.1) refl
 
   queue_plain : (p c : ℕ) (e : TraceNumber) → p < length stack → MadeNumber e → HasQueue (layer_of stack p) c e →
       ThereNumber e →
@@ -460,5 +463,5 @@ module _ (stack : List LayerTree) (told : AreToldApart stack) (few : length stac
       (plain_both (codes "out " ++ sign_text (direction_sign dir)) (codes " ")
       (plain_both (codes "out ") (sign_text (direction_sign dir)) refl (direction_plain dir)) refl) (kind_plain k))
       (listed_plain parts (each_append IsPlain
-      (map AtomText xs) _ (atoms_plain xs made.0 fits.1) (cores_plain message made.1 fits.2))))
-      (chain_plain message made.1 fits.2)
+      (map AtomText xs) _ (atoms_plain xs made.0 fits.2) (cores_plain dir message made.1 fits.3))))
+      (chain_plain dir message made.1 fits.3)

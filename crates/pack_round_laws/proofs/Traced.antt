@@ -1,6 +1,6 @@
 -- Traces of layers that fit can be read as they are written.
 use Rattle.std.proofs.Common.{◌≡◌, ℕ, zero, suc, ◌+◌, ◌-◌, ◌<◌, ◌≤◌, Bool, true, false, List, [], ◌∷◌, ◌++◌, map}
-use Rattle.std.proofs.Common.{length, take, get_or, Option, Some, None, option_map, option_to_list, slice_index_or}
+use Rattle.std.proofs.Common.{length, take, get_or, is_some, Option, Some, None, option_map, option_to_list, slice_index_or}
 use Rattle.std.proofs.Common.{refl, sym, ap, ◌∙◌, subst, arith}
 use Rattle.std.specs.Prelude.{if◌then◌else◌, ◌==◌, ◌&&◌, nat_le, Ok, Err}
 use Rattle.std.specs.List.{fold, AllByRecursion}
@@ -16,6 +16,7 @@ use Rattle.layer_words.specs.declared.events.Kind.TheVariants as kind
 use Rattle.layer_words.specs.declared.operators.Operator.TheVariants.{Less}
 use Rattle.layer_mean.specs.declared.run.Case.{Case}
 use Rattle.layer_mean.specs.declared.run.Case.TheVariants.{First, Second}
+use Rattle.layer_mean.specs.Event.{carries}
 use Rattle.layer_mean.specs.Tree as tree
 use Rattle.layer_mean.specs.Tree.{Carried, ExpressionTree, MessageTree, ContentTree, EmissionTree, ItemsTree}
 use Rattle.layer_mean.specs.Tree.{HandlerTree, LayerTree, no_layer}
@@ -28,7 +29,6 @@ use Rattle.stack_mean.specs.Shape.{Known, entry_place}
 use Rattle.weight_laws.proofs.Nodes.{found}
 use Rattle.chain_laws.specs.Runs.{IsOnItsWay, task_place}
 use Rattle.chain_laws.proofs.Lists.{each_or, each_set, each_so, each_append, each_room}
-use Rattle.msg_core.specs.Headers.{most_fields}
 use Rattle.trace_mean.specs.Trace as trace
 use Rattle.trace_mean.specs.Trace.{Atom, number, bound, taken_number, Core, body, noted}
 use Rattle.trace_mean.specs.Trace.{taken_message, nothing, TraceNumber, TraceMessage, core, held, cut, tail, join, Link}
@@ -48,6 +48,7 @@ use Rattle.trace_form_laws.proofs.Turns.{IfMade, from_made, more_made, steps_kee
 use Rattle.bypass_mean.specs.Text.{layer_of}
 use Rattle.pack_mean.specs.Named.{items_at, no_items}
 use Rattle.pack_mean.specs.Expression.{most_brackets}
+use Rattle.pack_mean.specs.Operation.{numbers_of}
 use Rattle.pack_round_laws.proofs.Fits.{largest_number, Carries, AtomFits, CoreFits, NumberFits, MessageFits, ChainFits}
 use Rattle.pack_round_laws.proofs.Fits.{ChainedFits, SentFits, RowFits, index_brackets}
 use Rattle.pack_round_laws.proofs.Packable.{taken_after, TraceFits}
@@ -182,9 +183,9 @@ module _ (stack : List LayerTree) (taken : List ItemsTree) where
     own_number e h = number_fits most_nested e h
 
     numbers_fit : (es : List ExpressionTree) → AllByRecursion (Fits (layer_of stack p)) es →
-        AllByRecursion (NumberFits stack taken most_brackets) (map (traced_number p l) es)
+        AllByRecursion (NumberFits stack taken index_brackets) (map (traced_number p l) es)
     numbers_fit [] h = tt
-    numbers_fit (e ∷ es) h = (four_more (traced_number p l e) (own_number e h.0), numbers_fit es h.1)
+    numbers_fit (e ∷ es) h = (three_more (traced_number p l e) (own_number e h.0), numbers_fit es h.1)
 
     room_fits : (c : ℕ) (i : ExpressionTree) (capacity : ℕ) → Fits (layer_of stack p) i → capacity ≤ largest_number →
         NumberFits stack taken most_brackets (room_in (layer_of stack p) p l c i capacity)
@@ -245,6 +246,12 @@ pub under : (places at : ℕ) → is_place places at ≡ false → at ≤ places
 under places zero off high = refl
 under places (suc at) off high = absurd (grind (arith, nat_tests))
 
+-- what carries a message has one number
+one_number : (k : Kind) → carries k ≡ true → 1 ≡ numbers_of k
+one_number kind.Stable carried = absurd (cc carried)
+one_number kind.Ack carried = absurd (cc carried)
+one_number _ carried = refl
+
 -- rows that were taken before are taken
 record Grown (from to : List ItemsTree) : Type 0 where
   core : (c : Core) → CoreFits from c → CoreFits to c
@@ -265,7 +272,8 @@ module _ (stack : List LayerTree) where
   MessageAt taken place (Some m) = ChainedFits stack taken place m
 
   record EventFits (taken : List ItemsTree) (place : ℕ) (e : TracedEvent) : Type 0 where
-    few : length e.numbers ≤ most_fields
+    count : length e.numbers ≡ numbers_of e.kind
+    carried : is_some e.message ≡ carries e.kind
     numbers_fit : AllByRecursion AtomFits e.numbers
     message_fits : MessageAt taken place e.message
 
@@ -278,7 +286,8 @@ module _ (stack : List LayerTree) where
       EventFits b place e
   wider_event a b g place e h =
       record {
-        few = h.few;
+        count = h.count;
+        carried = h.carried;
         numbers_fit = h.numbers_fit;
         message_fits =
             wider_message a b g place e.message h.message_fits;
@@ -431,7 +440,7 @@ module _ (stack : List LayerTree) where
       index : NumberFits stack taken index_brackets (traced_number p l i)
       index = three_more stack taken (traced_number p l i) (own_number stack taken p l scope i row_put.index_fits)
 
-      numbers : AllByRecursion (NumberFits stack taken most_brackets) (map (traced_number p l) row.numbers)
+      numbers : AllByRecursion (NumberFits stack taken index_brackets) (map (traced_number p l) row.numbers)
       numbers = numbers_fit stack taken p l scope row.numbers row_put.numbers_fit
 
       count : length (map (traced_number p l) row.numbers) ≡ length (items_at stack p c).numbers
@@ -484,10 +493,11 @@ module _ (stack : List LayerTree) where
 
     sends : (y : Tracing) (e : EmissionTree) (os : List Operation) (b n : ℕ) (message : Option Chained)
         (h : ShutVisit p from y) →
-        Leads h.shut.taken os h.shut.taken → length e.numbers ≤ most_fields →
+        Leads h.shut.taken os h.shut.taken → length e.numbers ≡ numbers_of e.kind →
+        is_some message ≡ carries e.kind →
         MessageAt h.shut.taken (sent_place p e.direction) message →
         ShutVisit p from (sending y e os b n message)
-    sends y e os b n message h leads few fits =
+    sends y e os b n message h leads all carried fits =
         let takes = h.shut.takes in
         let count = bounds_count y.made.binds e.numbers in
         record {
@@ -498,7 +508,8 @@ module _ (stack : List LayerTree) where
             grown = h.shut.grown;
             sent_fit = each_append (SendFits p h.shut.taken) y.sent _ h.shut.sent_fit (
               record {
-                few = omega (arith, count, few);
+                count = count ∙ all;
+                carried = carried;
                 numbers_fit =
                     bounds_fit y.made.binds e.numbers;
                 message_fits = fits;
@@ -510,10 +521,10 @@ module _ (stack : List LayerTree) where
         }
 
     send_message : (y : Tracing) (e : EmissionTree) (c : ContentTree) (h : ShutVisit p from y) →
-        length e.numbers ≤ most_fields →
+        length e.numbers ≡ numbers_of e.kind → true ≡ carries e.kind →
         AllByRecursion (Fits (layer_of stack p)) e.numbers → ContentFits (layer_of stack p) e.direction c →
         ShutVisit p from (sending_message p y e c (traced_message p y.names c.message))
-    send_message y e c h few numbers content =
+    send_message y e c h all carried numbers content =
         let x : Worded = traced_message p y.names c.message in
         let t = h.shut.taken in
         sends y e (binding p y.names (e.numbers ++ c.fields) ++ notes_of x.message) (length (e.numbers ++ c.fields))
@@ -522,7 +533,7 @@ module _ (stack : List LayerTree) where
         (binds_lead t p y.names (e.numbers ++ c.fields) h.scope
         (each_append (Fits (layer_of stack p)) e.numbers c.fields numbers content.fields_fit))
         (notes_lead t x.message (message_fits stack t p y.names h.scope most_nested c.message content.message_fits)))
-        few (ends e.direction content.header_fits) where
+        all carried (ends e.direction content.header_fits) where
           chain : ChainFits stack (p + 1) (traced_message p y.names c.message).chain
           chain = chain_fits stack h.shut.taken p y.names h.scope c.message
 
@@ -551,20 +562,20 @@ module _ (stack : List LayerTree) where
           }
 
     known_sends : (b : Bool) (y : Tracing) (e : EmissionTree) (c : ContentTree) (h : ShutVisit p from y) →
-        length e.numbers ≤ most_fields →
+        length e.numbers ≡ numbers_of e.kind → true ≡ carries e.kind →
         AllByRecursion (Fits (layer_of stack p)) e.numbers → ContentFits (layer_of stack p) e.direction c →
         IfMade (ShutVisit p from) (sending_known b p y e c (traced_message p y.names c.message))
-    known_sends true y e c h few numbers content = send_message y e c h few numbers content
-    known_sends false y e c h few numbers content = tt
+    known_sends true y e c h all carried numbers content = send_message y e c h all carried numbers content
+    known_sends false y e c h all carried numbers content = tt
 
     send_shut : (y : Tracing) (e : EmissionTree) (c : Option ContentTree) (h : ShutVisit p from y) →
-        length e.numbers ≤ most_fields →
+        length e.numbers ≡ numbers_of e.kind → is_some c ≡ carries e.kind →
         AllByRecursion (Fits (layer_of stack p)) e.numbers → SentContentFits (layer_of stack p) e.direction c →
         IfMade (ShutVisit p from) (traced_send p y e c)
-    send_shut y e None h few numbers content = sends y e (binding p y.names e.numbers) (length e.numbers) 0 None h
-        (binds_lead h.shut.taken p y.names e.numbers h.scope numbers) few tt
-    send_shut y e (Some c) h few numbers content = known_sends (traced_message p y.names c.message).known y e c h few
-        numbers content
+    send_shut y e None h all carried numbers content = sends y e (binding p y.names e.numbers) (length e.numbers) 0 None h
+        (binds_lead h.shut.taken p y.names e.numbers h.scope numbers) all carried tt
+    send_shut y e (Some c) h all carried numbers content =
+        known_sends (traced_message p y.names c.message).known y e c h all carried numbers content
 
     step_shut : (x : Step) (y : Tracing) → StepFits (layer_of stack p) x → ShutVisit p from y →
         IfMade (ShutVisit p from) (trace_step (layer_of stack p) p x y)
@@ -631,7 +642,7 @@ module _ (stack : List LayerTree) where
               y.names.numbers wide.numbers_fit;
           messages_fit = filled_message to y.made.takes c taken.message y.names.messages here q.1 wide.messages_fit;
         })
-    step_shut (send e) y q h = send_shut y e e.content h q.few q.numbers_fit q.content_fits
+    step_shut (send e) y q h = send_shut y e e.content h q.count q.carried q.numbers_fit q.content_fits
     step_shut loop y q h = tt
 
   -- visits
@@ -656,6 +667,14 @@ module _ (stack : List LayerTree) where
   met_fits taken p dir None h = record { fields_fit = tt; message_fits = tt }
   met_fits taken p Up (Some m) h = popped_fits taken p m.core m.chain h.core_fits h.chain_fits
   met_fits taken p Down (Some m) h = record { fields_fit = tt; message_fits = h }
+
+  met_same : (dir : Dir) (m : Option Chained) → is_some (traced_met dir m).message ≡ is_some m
+  met_same dir None = refl
+  met_same Down (Some m) = refl
+  met_same Up (Some m) = go m.chain where
+    go : (chain : List Link) → is_some (popped_chain m.core chain).message ≡ true
+    go [] = refl
+    go (l ∷ ls) = refl
 
   arguments_fit : (k : Kind) (ns : List Atom) → AllByRecursion AtomFits ns →
       AllByRecursion AtomFits (traced_arguments k ns)
@@ -684,16 +703,17 @@ module _ (stack : List LayerTree) where
 
   module _ (m : Made) (taken : List ItemsTree) (leads : Leads [] m.operations taken) (takes : length taken ≡ m.takes)
     where
-      on_shut : (p : ℕ) (dir : Dir) (e : TracedEvent) (message : Option Chained) → length e.numbers ≤ most_fields →
+      on_shut : (p : ℕ) (dir : Dir) (e : TracedEvent) (message : Option Chained) →
+          length e.numbers ≡ numbers_of e.kind → is_some message ≡ carries e.kind →
           AllByRecursion AtomFits e.numbers →
           MessageAt taken (sent_place p dir) message →
           Shut p taken (traced_on m dir e message).made (traced_on m dir e message).sent
-      on_shut p dir e message few numbers fits = record {
+      on_shut p dir e message all carried numbers fits = record {
         taken = taken;
         leads = leads;
         takes = takes;
         grown = grown_self taken;
-        sent_fit = (record { few = few; numbers_fit = numbers; message_fits = fits }, tt);
+        sent_fit = (record { count = all; carried = carried; numbers_fit = numbers; message_fits = fits }, tt);
       }
 
       abbrev VisitShut : ℕ → TracedVisit → Type 0
@@ -701,18 +721,18 @@ module _ (stack : List LayerTree) where
 
       unhandled_shut : (p place : ℕ) → p < length stack →
           (dir : Dir) (e : TracedEvent) (tag : ℕ) (message : Option Chained) → EventFits taken place e →
-          MessageAt taken (p + 1) message → IfMade (VisitShut p) (traced_unhandled p m dir e tag message)
-      unhandled_shut p place inside dir e tag None h k = on_shut p dir e None h.few h.numbers_fit tt
-      unhandled_shut p place inside Down e tag (Some c) h k = on_shut p Down e _ h.few h.numbers_fit (record {
+          is_some message ≡ carries e.kind → MessageAt taken (p + 1) message → IfMade (VisitShut p) (traced_unhandled p m dir e tag message)
+      unhandled_shut p place inside dir e tag None h met k = on_shut p dir e None h.count met h.numbers_fit tt
+      unhandled_shut p place inside Down e tag (Some c) h met k = on_shut p Down e _ h.count met h.numbers_fit (record {
         core_fits = k.core_fits;
         chain_fits = (
           record { at = refl; inside = inside; declares = refl; count = refl; fields_fit = tt },
           k.chain_fits,
         );
       })
-      unhandled_shut p place inside Up e tag (Some c) h k = go (tag == 0) where
+      unhandled_shut p place inside Up e tag (Some c) h met k = go (tag == 0) where
         go : (b : Bool) → IfMade (VisitShut p) (if b then Ok (traced_on m Up e (Some c)) else Err (no_shape.rare p))
-        go true = on_shut p Up e (Some c) h.few h.numbers_fit k
+        go true = on_shut p Up e (Some c) h.count met h.numbers_fit k
         go false = tt
 
       way_shut : (p : ℕ) → p < length stack → (w : Option (List Step)) (l : Names) → WayFits (layer_of stack p) w →
@@ -749,7 +769,7 @@ module _ (stack : List LayerTree) where
                 MetFits taken p (traced_met dir e.message) →
                 IfMade (VisitShut p) (traced_handled case (layer_of stack p) p m o dir e (traced_met dir e.message))
             go None is k = unhandled_shut p (met_place p dir) inside dir e (traced_met dir e.message).tag
-                (traced_met dir e.message).message h k.message_fits
+                (traced_met dir e.message).message h (met_same dir e.message ∙ h.carried) k.message_fits
             go (Some x) is k =
                 let chosen = found (HandlerFits (layer_of stack p)) (is_for dir e.kind (traced_met dir e.message).tag)
                 (layer_of stack p).handlers x fits is in
@@ -786,7 +806,7 @@ module _ (stack : List LayerTree) where
     takes : length taken ≡ f.made.takes
     tasks : AllByRecursion (TaskFits taken) pending
 
-  -- what comes out has its known headers from the lowest place on
+  -- what comes out below has its known headers from the lowest place on, and what comes out above has none
   over : (places at : ℕ) → is_place places at ≡ false → 1 ≤ at → places ≤ at - 1
   over places at off low = go (nat_le 1 at) (nat_le at places) refl refl off where
     go : (a b : Bool) → nat_le 1 at ≡ a → nat_le at places ≡ b → (a && b) ≡ false → places ≤ at - 1
@@ -795,20 +815,16 @@ module _ (stack : List LayerTree) where
     go false b x y h = let none = leb-false 1 at x in omega (arith, none, low)
 
   no_chain : (place : ℕ) (chain : List Link) → length stack ≤ place → ChainFits stack place chain →
-      ChainFits stack 0 chain
-  no_chain place [] le h = tt
+      chain ≡ []
+  no_chain place [] le h = refl
   no_chain place (l ∷ ls) le h = let inside = h.0.inside in absurd (omega (arith, le, inside))
 
   sent_fits : (taken : List ItemsTree) (dir : Dir) (at : ℕ) (m : Option Chained) → IsOnItsWay stack dir at →
       is_place (length stack) at ≡ false →
-      MessageAt taken (task_place dir at) m → SentFits stack taken m
+      MessageAt taken (task_place dir at) m → SentFits stack taken dir m
   sent_fits taken dir at None way off h = tt
   sent_fits taken Up at (Some m) way off h =
-      record {
-        core_fits = h.core_fits;
-        chain_fits = no_chain (at - 1) m.chain
-            (over (length stack) at off way.0) h.chain_fits;
-      }
+      (h.core_fits, no_chain (at - 1) m.chain (over (length stack) at off way.0) h.chain_fits)
   sent_fits taken Down at (Some m) way off h =
       record {
         core_fits = h.core_fits;
@@ -829,7 +845,8 @@ module _ (stack : List LayerTree) where
             (record {
               fits = (
                 (
-                  e.few,
+                  e.count,
+                  e.carried,
                   e.numbers_fit,
                   sent_fits h.taken t.dir t.at t.event.message h.tasks.0.way off e.message_fits,
                 ),
@@ -877,11 +894,13 @@ module _ (stack : List LayerTree) where
   Begins k fields = ChainFits stack (task_place k.dir (entry_place stack k.dir))
       (entry_chain 0 stack k.tags (field_atoms 0 fields))
 
-  begins : (k : Known) (fields : List (Option ℕ)) → Begins k fields → TaskFits [] (traced_task stack k fields)
-  begins k fields h = record {
+  begins : (k : Known) (fields : List (Option ℕ)) → carries k.kind ≡ true → Begins k fields →
+      TaskFits [] (traced_task stack k fields)
+  begins k fields carried h = record {
     way = go k.dir;
     event = record {
-      few = omega arith;
+      count = one_number k.kind carried;
+      carried = sym carried;
       numbers_fit = (tt, tt);
       message_fits =
           record { core_fits = tt; chain_fits = h };
@@ -892,9 +911,10 @@ module _ (stack : List LayerTree) where
     go Down = omega arith
 
   pub traces_fit : LayersFit stack →
-      (case : Case) (k : Known) (fields : List (Option ℕ)) (operations : List Operation) → Begins k fields →
+      (case : Case) (k : Known) (fields : List (Option ℕ)) (operations : List Operation) → carries k.kind ≡ true →
+      Begins k fields →
       trace_of case stack k fields ≡ Ok operations → TraceFits stack [] operations
-  traces_fit fits case k fields operations entry is =
+  traces_fit fits case k fields operations carried entry is =
       let come = traced case stack (λ n f pending. Good f pending) (λ n f t rest off h. output_keeps f t rest off h)
       (λ n f t rest place room h. visit_keeps fits case f t rest place h) k fields operations
       (record {
@@ -902,6 +922,6 @@ module _ (stack : List LayerTree) where
         leads = record { fits = tt; is = refl };
         takes = refl;
         tasks =
-            (begins k fields entry, tt);
+            (begins k fields carried entry, tt);
       }) is in
       subst (TraceFits stack []) come.is come.so.leads.fits

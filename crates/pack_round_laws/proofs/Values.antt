@@ -12,6 +12,7 @@ use Rattle.layer_words.specs.declared.sorts.Sort.{Sort}
 use Rattle.layer_words.specs.declared.sorts.Sort.TheVariants.{Int}
 use Rattle.layer_words.specs.declared.events.Dir.{Dir}
 use Rattle.layer_words.specs.declared.events.Kind.{Kind}
+use Rattle.layer_words.specs.declared.events.Kind.TheVariants.{Cast, Send, Stable, Ack}
 use Rattle.layer_ast.specs.Tree as ast
 use Rattle.layer_mean.specs.Event.{carries}
 use Rattle.layer_mean.specs.Tree.{Carried, part, ExpressionTree, number, local, element}
@@ -46,12 +47,28 @@ use Rattle.file_laws.proofs.NamedLayers.{Clean}
 use Rattle.file_laws.proofs.Own.{Declares, is_rows, queue_listed}
 use Rattle.file_laws.proofs.Small.{LiteralPlaced, param_small}
 use Rattle.chain_laws.proofs.Lists.{Where, each_map, each_take}
+use Rattle.pack_mean.specs.Operation as operation
 use Rattle.pack_round_laws.proofs.Fits.{Carries}
 use Rattle.pack_round_laws.proofs.Layers.{cell_items, ExpressionFits, MessageFits, most_nested, Fits, TakenFits}
 use Rattle.pack_round_laws.proofs.Walked.{Deep, DeepQueue, DeepMessage, DeepBuilt, DeepArgument, DeepPushed}
 use Rattle.pack_round_laws.proofs.Walked.{DeepStatement}
 use Rattle.pack_round_laws.proofs.Walked.{DeepStanding, deepest, deep_one}
 use Rattle.pack_round_laws.proofs.Ways.{queue_items, OptionFits, ContentsFit, FitsAll}
+
+-- an event has as many numbers as its kind
+one_of_two : {A : Type 0} (xs : List A) → length xs ≡ 2 → length (numbers_among true xs) ≡ 1
+one_of_two [] two = absurd (omega (arith, two))
+one_of_two (a ∷ []) two = absurd (omega (arith, two))
+one_of_two (a ∷ b ∷ []) two = refl
+one_of_two (a ∷ b ∷ c ∷ more) two = absurd (omega (arith, two))
+
+counted : {A : Type 0} (k : Kind) (args : List A) → length args ≡ length (arguments_of k) →
+    length (numbers_among (carries k) args) ≡ operation.numbers_of k
+counted Cast args count = one_of_two args count
+counted Send args count = one_of_two args count
+counted Stable args count = count
+counted Ack args count = count
+counted _ args count = count
 
 -- what rows carry, their message is
 rows_carry : (p : Placed) (items : List ast.ItemTree) (carried : Carried) → carried_in p items ≡ Some carried →
@@ -315,7 +332,8 @@ module _ (names : Names) where
         DeepPushed pushed → AllByRecursion LiteralArgument args → LiteralPushed pushed →
         emission_faults (record { layer = names.place.layer; locals = locals }) at dir k args pushed ≡ [] →
         AllByRecursion (Fits (layer_of names.place)) (emission_of names dir k args pushed).numbers ×
-        ContentsFit (layer_of names.place) (emission_of names dir k args pushed).content
+        ContentsFit (layer_of names.place) (emission_of names dir k args pushed).content ×
+        (length (emission_of names dir k args pushed).numbers ≡ operation.numbers_of k)
     emission_fits at dir k args pushed deep deep_pushed literal literal_pushed h =
         let a = unless (length args == length (arguments_of k)) (arity at) in
         let b = arguments_faults scope (arguments_of k) args in
@@ -332,6 +350,7 @@ module _ (names : Names) where
           content_fits (pushed_tag names pushed) (pushed_fields names pushed)
               (fields_fit at dir k pushed deep_pushed literal_pushed two.1)
               (message_among (carries k) args) (message_fits_among (carries k) args fit),
+          length-map (numbers_among (carries k) args) (argument_number names) ∙ counted k args count,
         )
 
     push_fits : (at : At) (q : ast.QueueTree) (args : List ast.ArgumentTree) → DeepQueue deepest q →

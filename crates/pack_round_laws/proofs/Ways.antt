@@ -24,6 +24,7 @@ use Rattle.chain_laws.specs.Typed.{sorts_of, TypedHandler}
 use Rattle.chain_laws.proofs.Lists.{each_append}
 use Rattle.file_laws.specs.Bounds.{HoldsStatement, HoldsBlock}
 use Rattle.pack_mean.specs.Named.{items_in, no_items}
+use Rattle.pack_mean.specs.Operation.{numbers_of}
 use Rattle.pack_round_laws.proofs.Fits.{largest_number}
 use Rattle.pack_round_laws.proofs.Layers.{cell_items, MessageFits, most_nested, Fits, RowMessageFits, PutFits}
 use Rattle.pack_round_laws.proofs.Layers.{TakenFits}
@@ -49,7 +50,8 @@ abbrev mutual
       FitsAll layer block × FitsAll layer otherwise
   FitsStatement layer (branch chosen e block otherwise) = Fits layer e × FitsAll layer block × FitsAll layer otherwise
   FitsStatement layer (each k below most block) = Unit {0}
-  FitsStatement layer (emit e) = AllByRecursion (Fits layer) e.numbers × ContentsFit layer e.content
+  FitsStatement layer (emit e) = AllByRecursion (Fits layer) e.numbers × ContentsFit layer e.content ×
+      (length e.numbers ≡ numbers_of e.kind)
 
   pub FitsAll : LayerTree → StatementTrees → Type 0
   FitsAll layer none = Unit {0}
@@ -131,6 +133,14 @@ module _ (layer : LayerTree) (blank : List Header) (cells : AllByRecursion (λ c
               header_fits (header_of_tag layer c.tag) (length c.fields) _ sends.declares;
         }
 
+    carried_as : (sorts : List Sort) (b : Bool) (dir : Dir) (c : Option ContentTree) →
+        Sends layer blank sorts b dir c →
+        is_some c ≡ b
+    carried_as sorts true dir (Some c) sends = refl
+    carried_as sorts false dir None sends = refl
+    carried_as sorts true dir None sends = absurd sends
+    carried_as sorts false dir (Some c) sends = absurd sends
+
     mutual
       way_fits : (case : Case) (x : StatementTree) (sorts : List Sort) → Typed layer blank sorts x → HoldsStatement x →
           FitsStatement layer x →
@@ -153,7 +163,8 @@ module _ (layer : LayerTree) (blank : List Header) (cells : AllByRecursion (λ c
       way_fits case (each k below most block) sorts typed holds fits = (tt, tt)
       way_fits case (emit e) sorts typed holds fits = (
         record {
-          few = holds.0;
+          count = fits.2;
+          carried = carried_as sorts (carries e.kind) e.direction e.content typed.1;
           numbers_fit = fits.0;
           content_fits =
               content_fits sorts (carries e.kind) e.direction e.content typed.1 fits.1;

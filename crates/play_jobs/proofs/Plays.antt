@@ -18,7 +18,7 @@ use Rattle.run_mean.specs.Mode.{Mode}
 use Rattle.job_mean.specs.Job.{Job, replay, replay_with, explain, load}
 use Rattle.end_mean.specs.Status.{Ended, done, second_refused, traces_refused, read_failed, write_failed, no_memory}
 use Rattle.end_mean.specs.Status.{too_many_rows}
-use Rattle.run_mean.specs.Report.{output_in}
+use Rattle.group_mean.specs.Told.{replay_lines}
 use Rattle.run_mean.specs.Tally.{tally}
 use Rattle.group_mean.specs.Room.{HasRoom}
 use Rattle.miss_mean.specs.Text.{explained_lines}
@@ -91,14 +91,15 @@ module _ (job : Job) (a : Around) (stack : List LayerTree) (members : ℕ) (file
 
 module _ (name script : Text) (a : Around) (between : ℕ) (stack : List LayerTree) (s : Script)
     (t : IsSpelled script_of IsRunnable script (option_map after_read a.told) between a.reads_after s) where
-  pub replay_comes : (mode : Mode) (wire count : Bool) → IsStack name a.told a.reads between stack →
+  pub replay_comes : (mode : Mode) (events wire count : Bool) → IsStack name a.told a.reads between stack →
       (run : Result (Unit {0}) PlayError) →
-      Plays stack s.members (output_in stack (plans_of stack) s mode wire count) a.output a.output_after run →
-      Comes (replay name script mode wire count) a (end_of run)
-  unfolding output_in
-  replay_comes mode wire count f = played (replay name script mode wire count) a stack s.members f.file t.text f.found
+      Plays stack s.members (replay_lines stack (plans_of stack) s mode events wire count) a.output a.output_after run →
+      Comes (replay name script mode events wire count) a (end_of run)
+  unfolding replay_lines
+  replay_comes mode events wire count f = played (replay name script mode events wire count) a stack s.members f.file
+      t.text f.found
       t.found refl f.means
-      (output_in stack (plans_of stack) s mode wire count)
+      (replay_lines stack (plans_of stack) s mode events wire count)
       (λ room. record { stack = stack; means = f.means; script = s; spelled = t.spells; room = room; written = refl })
       refl (ap (after_script stack) t.spells) (t.sound ∙ f.sound)
 
@@ -131,12 +132,13 @@ load_comes name seed events members raw mode a stack f = played (load name seed 
     refl refl f.sound
 
 -- A replay by traces ended as what followed the reads of its stack and its script did.
-module _ (name script given : Text) (wire count : Bool) (a : Around) (between middle : ℕ) (stack : List LayerTree)
+module _ (name script given : Text) (events wire count : Bool) (a : Around) (between middle : ℕ)
+    (stack : List LayerTree)
     (s : Script)
     (f : IsStack name a.told a.reads between stack)
     (t : IsSpelled script_of IsRunnable script (option_map after_read a.told) between middle s) where
   abbrev job : Job
-  job = replay_with name script given wire count
+  job = replay_with name script given events wire count
 
   abbrev later : Around
   later = surrounding (option_map after_read (option_map after_read a.told)) middle a.reads_after a.output
@@ -151,7 +153,7 @@ module _ (name script given : Text) (wire count : Bool) (a : Around) (between mi
     found = f.found;
     beside = t.found;
     following = r.found;
-    lines = lines_of stack s wire count;
+    lines = lines_of stack s events wire count;
     output = record {
       stack = stack;
       means = f.means;
@@ -166,8 +168,8 @@ module _ (name script given : Text) (wire count : Bool) (a : Around) (between mi
   fine : HasRoom stack s.members → second_fault job stack t.text ≡ None
   fine room = ap (after_script stack) t.spells ∙ enough stack s.members room
 
-  pub with_comes : (end : Ended) → PlaysTraces stack s given wire count later end → Comes job a end
-  unfolding good_traces output_in
+  pub with_comes : (end : Ended) → PlaysTraces stack s given events wire count later end → Comes job a end
+  unfolding good_traces replay_lines
   with_comes done p = written job a (good_traces p.room p.traces) done (p.traces.sound ∙ t.sound ∙ f.sound)
       (refl, p.came)
   with_comes (second_refused too_many_rows) p = record {
@@ -223,17 +225,19 @@ module _ (name script given : Text) (wire count : Bool) (a : Around) (between mi
   with_comes _ p = absurd p
 
 -- A replay by traces over members that have room ended as its run did.
-pub played_traces : (stack : List LayerTree) (s : Script) (name : Text) (wire count : Bool) (a : Around) →
+pub played_traces : (stack : List LayerTree) (s : Script) (name : Text) (events wire count : Bool) (a : Around) →
     HasRoom stack s.members →
     AreTraces stack name a.told a.reads a.reads_after → (run : Result (Unit {0}) PlayError) →
-    Plays stack s.members (lines_of stack s wire count) a.output a.output_after run →
-    PlaysTraces stack s name wire count a (end_of run)
-played_traces stack s name wire count a room traces (Ok run) p = record { room = room; traces = traces; came = p.1 }
-played_traces stack s name wire count a room traces (Err TooManyRows) p =
+    Plays stack s.members (lines_of stack s events wire count) a.output a.output_after run →
+    PlaysTraces stack s name events wire count a (end_of run)
+played_traces stack s name events wire count a room traces (Ok run) p =
+    record { room = room; traces = traces; came = p.1 }
+played_traces stack s name events wire count a room traces (Err TooManyRows) p =
     record { rows = p.0; sound = traces.sound; untouched = p.1 }
-played_traces stack s name wire count a room traces (Err Failed) p = record { room = room; traces = traces; came = p.1 }
-played_traces stack s name wire count a room traces (Err Memory) (inl same) = inl same
-played_traces stack s name wire count a room traces (Err Memory) (inr p) =
+played_traces stack s name events wire count a room traces (Err Failed) p =
+    record { room = room; traces = traces; came = p.1 }
+played_traces stack s name events wire count a room traces (Err Memory) (inl same) = inl same
+played_traces stack s name events wire count a room traces (Err Memory) (inr p) =
     inr (record { room = room; traces = traces; came = p.1 })
 
 -- Members that were found to have room.

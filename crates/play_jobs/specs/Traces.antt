@@ -17,7 +17,7 @@ use Rattle.job_ends.specs.declared.ending.Ending.{Ending}
 use Rattle.layer_mean.specs.Tree.{LayerTree}
 use Rattle.pack_mean.specs.Accepted.{Accepts, IsFault, PackFault, too_large, bad_line, differs}
 use Rattle.run_mean.specs.Mode.{bypass}
-use Rattle.run_mean.specs.Report.{output_in}
+use Rattle.group_mean.specs.Told.{replay_lines}
 use Rattle.script_mean.specs.declared.script.Script.{Script}
 use Rattle.stack_mean.specs.Acceptance.{rows_of, most_rows}
 use Rattle.stack_mean.specs.Plans.{plans_of}
@@ -81,8 +81,8 @@ pub record PlayedSo (Came : Type 0) (stack : List LayerTree) (s : Script) (name 
   pub came : Came
 
 -- The lines of a replay by bypasses.
-abbrev pub lines_of : List LayerTree → Script → (wire count : Bool) → List (List ℕ)
-lines_of stack s wire count = output_in stack (plans_of stack) s bypass wire count
+abbrev pub lines_of : List LayerTree → Script → (events wire count : Bool) → List (List ℕ)
+lines_of stack s events wire count = replay_lines stack (plans_of stack) s bypass events wire count
 
 -- Nothing was put out by members that have room: the job ended at its traces.
 pub record EndedSo (stack : List LayerTree) (s : Script) (name : Text) (a : Around) (end : Ended) : Type 0 where
@@ -98,14 +98,15 @@ pub record HasNoRoom (stack : List LayerTree) (s : Script) (a : Around) : Type 0
 
 -- How a replay by traces ends over a stack and a script that are good, of which the rows are judged first, and then the
 -- traces.
-abbrev pub PlaysTraces : List LayerTree → Script → (name : Text) → (wire count : Bool) → Around → Ended → Type 0
-PlaysTraces stack s name wire count a done = PlayedSo (Gains a.output a.output_after (lines_of stack s wire count))
+abbrev pub PlaysTraces : List LayerTree → Script → (name : Text) → (events wire count : Bool) → Around → Ended → Type 0
+PlaysTraces stack s name events wire count a done =
+    PlayedSo (Gains a.output a.output_after (lines_of stack s events wire count))
     stack s name a
-PlaysTraces stack s name wire count a (second_refused too_many_rows) = HasNoRoom stack s a
-PlaysTraces stack s name wire count a (traces_refused fault) = EndedSo stack s name a (traces_refused fault)
-PlaysTraces stack s name wire count a read_failed = EndedSo stack s name a read_failed
-PlaysTraces stack s name wire count a write_failed =
-    PlayedSo (Fails a.output a.output_after (lines_of stack s wire count)) stack s name a
-PlaysTraces stack s name wire count a no_memory = (a.output_after ≡ a.output)
-    ⊎ PlayedSo (Begins a.output a.output_after (concat (lines_of stack s wire count))) stack s name a
-PlaysTraces stack s name wire count a _ = ⊥
+PlaysTraces stack s name events wire count a (second_refused too_many_rows) = HasNoRoom stack s a
+PlaysTraces stack s name events wire count a (traces_refused fault) = EndedSo stack s name a (traces_refused fault)
+PlaysTraces stack s name events wire count a read_failed = EndedSo stack s name a read_failed
+PlaysTraces stack s name events wire count a write_failed =
+    PlayedSo (Fails a.output a.output_after (lines_of stack s events wire count)) stack s name a
+PlaysTraces stack s name events wire count a no_memory = (a.output_after ≡ a.output)
+    ⊎ PlayedSo (Begins a.output a.output_after (concat (lines_of stack s events wire count))) stack s name a
+PlaysTraces stack s name events wire count a _ = ⊥

@@ -31,8 +31,8 @@ pub fn replay_with<S: Shelf, O: Sink>(
     shelf: &mut S,
     out: &mut O,
 ) -> Ending
-    ensures { Comes (job.replay_with replay.now.file.now replay.now.script.now replay.now.traces.now replay.now.wire
-        replay.now.count)
+    ensures { Comes (job.replay_with replay.now.file.now replay.now.script.now replay.now.traces.now replay.now.events
+        replay.now.wire replay.now.count)
         (around S.Shelf O.Sink shelf.old shelf.new out.old out.new) (shown_end result) }
 {
     match fetch_stack(alloc, replay.file, shelf) {
@@ -58,7 +58,8 @@ fn play_traces<S: Shelf, O: Sink>(
     requires sound { IsSound (stack_tree stack) }
     requires runs { IsRunnable script.now }
     requires few { length script.now.events ≤ most_events }
-    ensures { PlaysTraces (stack_tree stack) script.now replay.now.traces.now replay.now.wire replay.now.count
+    ensures { PlaysTraces (stack_tree stack) script.now replay.now.traces.now replay.now.events replay.now.wire
+        replay.now.count
         (around S.Shelf O.Sink shelf.old shelf.new out.old out.new) (shown_end result) }
 {
     if !has_room(&stack, script.members) {
@@ -68,6 +69,7 @@ fn play_traces<S: Shelf, O: Sink>(
         Ok(bypasses) => {
             let wanted = Wanted {
                 script,
+                events: replay.events,
                 wire: replay.wire,
                 count: replay.count,
             };

@@ -7,12 +7,12 @@ ghost use Rattle.chain_laws.specs.Runs.{TypedStack};
 ghost use Rattle.stack_judge.specs.Answer.{stack_tree};
 ghost use Rattle.group_feed.specs.Beginning.{IsAtFirst};
 ghost use Rattle.group_mean.specs.Shown.{shown_mode};
+ghost use Rattle.group_mean.specs.Told.{replay_lines};
 ghost use Rattle.group_open.specs.Opening.{CanRun};
 ghost use Rattle.outside.specs.Lines.{Wrote};
 ghost use Rattle.outside.specs.Tells.{tells_of};
 ghost use Rattle.play_jobs.specs.Play.{Plays};
 ghost use Rattle.run_mean.specs.Mode.{bypass};
-ghost use Rattle.run_mean.specs.Report.{output_in};
 ghost use Rattle.script_mean.specs.Script.{IsRunnable};
 ghost use Rattle.stack_mean.specs.Plans.{plans_of};
 ghost use Rattle.stack_play.specs.Turns.{most_events};
@@ -30,10 +30,12 @@ use stack_play::{Report, write_report};
 use std::alloc::Global;
 use trace_core::Bypasses;
 
-/// The report that is wanted of a script: with the packets' bytes and the number of visits, or without these.
+/// The report that is wanted of a script: with the events, the packets' bytes and the number of visits, or without
+/// these.
 #[derive(Clone, Copy)]
 pub struct Wanted<'a> {
     pub script: &'a Script,
+    pub events: bool,
     pub wire: bool,
     pub count: bool,
 }
@@ -50,8 +52,8 @@ pub fn play<O: Sink>(
     requires runs { IsRunnable wanted.script.now }
     requires few { length wanted.script.now.events ≤ most_events }
     ensures { Plays (stack_tree stack) wanted.entry.script.now.members
-        (output_in (stack_tree stack) (plans_of (stack_tree stack)) wanted.entry.script.now (shown_mode mode)
-        wanted.entry.wire wanted.entry.count)
+        (replay_lines (stack_tree stack) (plans_of (stack_tree stack)) wanted.entry.script.now (shown_mode mode)
+        wanted.entry.events wanted.entry.wire wanted.entry.count)
         (tells_of O.Sink out.old) (tells_of O.Sink out.new) result }
 {
     let opened = open(
@@ -81,8 +83,8 @@ pub(crate) fn play_with<O: Sink>(
     requires runs { IsRunnable wanted.script.now }
     requires few { length wanted.script.now.events ≤ most_events }
     ensures { Plays (stack_tree stack) wanted.entry.script.now.members
-        (output_in (stack_tree stack) (plans_of (stack_tree stack)) wanted.entry.script.now bypass wanted.entry.wire
-        wanted.entry.count)
+        (replay_lines (stack_tree stack) (plans_of (stack_tree stack)) wanted.entry.script.now bypass
+        wanted.entry.events wanted.entry.wire wanted.entry.count)
         (tells_of O.Sink out.old) (tells_of O.Sink out.new) result }
 {
     let opened = open_with(
@@ -110,8 +112,8 @@ fn play_opened<O: Sink>(
         wanted.script.now.group wanted.script.now.stamp wanted.script.now.members opened.group opened.outputs.places }
     requires runs { IsRunnable wanted.script.now }
     requires few { length wanted.script.now.events ≤ most_events }
-    ensures { Wrote (output_in (stack_tree opened.stack) (plans_tree (rc_value opened.plans)) wanted.entry.script.now
-        opened.group.mode wanted.entry.wire wanted.entry.count)
+    ensures { Wrote (replay_lines (stack_tree opened.stack) (plans_tree (rc_value opened.plans)) wanted.entry.script.now
+        opened.group.mode wanted.entry.events wanted.entry.wire wanted.entry.count)
         (tells_of O.Sink out.old) (tells_of O.Sink out.new) result }
 {
     let Opened {
@@ -124,6 +126,7 @@ fn play_opened<O: Sink>(
     let manner = Manner {
         stack: &stack,
         plans: &plans,
+        events: wanted.events,
         wire: wanted.wire,
     };
     let report = Report {

@@ -21,8 +21,8 @@ pub fn replay_script<S: Shelf, O: Sink>(
     shelf: &mut S,
     out: &mut O,
 ) -> Ending
-    ensures { Comes (job.replay replay.now.file.now replay.now.script.now (shown_mode replay.now.mode) replay.now.wire
-        replay.now.count)
+    ensures { Comes (job.replay replay.now.file.now replay.now.script.now (shown_mode replay.now.mode)
+        replay.now.events replay.now.wire replay.now.count)
         (around S.Shelf O.Sink shelf.old shelf.new out.old out.new) (shown_end result) }
 {
     match fetch_stack(alloc, replay.file, shelf) {
@@ -30,6 +30,7 @@ pub fn replay_script<S: Shelf, O: Sink>(
             Ok(script) => {
                 let wanted = Wanted {
                     script: &script,
+                    events: replay.events,
                     wire: replay.wire,
                     count: replay.count,
                 };

@@ -104,8 +104,8 @@ record IsReport (law : Law) (file : List ℕ) : Type 0 where
 -- What a job needs of its files.
 abbrev Good : (third : Option (List ℕ)) → Job → (file second : List ℕ) → Type 0
 Good third (audit name law) file second = IsReport law file
-Good third (replay_with name script given wire count) file second =
-    AreGood (replay_with name script given wire count) file second × TakesTraces file third
+Good third (replay_with name script given events wire count) file second =
+    AreGood (replay_with name script given events wire count) file second × TakesTraces file third
 Good third job file second = AreGood job file second
 
 good_stack : (third : Option (List ℕ)) (job : Job) (file second : List ℕ) → ReadsStack job →
@@ -113,12 +113,12 @@ good_stack : (third : Option (List ℕ)) (job : Job) (file second : List ℕ) �
 good_stack third (check name) file second reads good = good
 good_stack third (synth name) file second reads good = good
 good_stack third (pack name) file second reads good = good
-good_stack third (replay name script mode wire count) file second reads good = good
+good_stack third (replay name script mode events wire count) file second reads good = good
 good_stack third (explain name script) file second reads good = good
 good_stack third (load name seed events members raw mode) file second reads good = good
 good_stack third (node name plan turns me patience mode) file second reads good = good
 good_stack third (audit name law) file second reads good = absurd reads
-good_stack third (replay_with name script given wire count) file second reads good = good.0
+good_stack third (replay_with name script given events wire count) file second reads good = good.0
 
 -- A job that is refused for its second file or its members reads a stack.
 reads_stack : (job : Job) (stack : List LayerTree) (second : List ℕ) (fault : SecondFault) →
@@ -127,8 +127,8 @@ reads_stack : (job : Job) (stack : List LayerTree) (second : List ℕ) (fault : 
 reads_stack (check name) stack second fault refused = tt
 reads_stack (synth name) stack second fault refused = tt
 reads_stack (pack name) stack second fault refused = tt
-reads_stack (replay name script mode wire count) stack second fault refused = tt
-reads_stack (replay_with name script given wire count) stack second fault refused = tt
+reads_stack (replay name script mode events wire count) stack second fault refused = tt
+reads_stack (replay_with name script given events wire count) stack second fault refused = tt
 reads_stack (explain name script) stack second fault refused = tt
 reads_stack (load name seed events members raw mode) stack second fault refused = tt
 reads_stack (node name plan turns me patience mode) stack second fault refused = tt
@@ -157,12 +157,12 @@ writes_good : (print : Printer) (job : Job) (r : Run) (file second out : List �
 writes_good print (check name) r file second out w = record { stack = w.0.stack; means = w.0.means; fine = refl }
 writes_good print (synth name) r file second out w = record { stack = w.0.stack; means = w.0.means; fine = refl }
 writes_good print (pack name) r file second out w = record { stack = w.0.stack; means = w.0.means; fine = refl }
-writes_good print (replay name script mode wire count) r file second out w = record {
+writes_good print (replay name script mode events wire count) r file second out w = record {
   stack = w.0.stack;
   means = w.0.means;
   fine = script_fine w.0.stack second w.0.script w.0.spelled w.0.room;
 }
-writes_good print (replay_with name script given wire count) r file second out w = (
+writes_good print (replay_with name script given events wire count) r file second out w = (
   record {
     stack = w.0.stack;
     means = w.0.means;
@@ -189,8 +189,8 @@ links_good (node name plan turns me patience mode) r file second (inr w) =
 links_good (check name) r file second w = absurd w
 links_good (synth name) r file second w = absurd w
 links_good (pack name) r file second w = absurd w
-links_good (replay name script mode wire count) r file second w = absurd w
-links_good (replay_with name script given wire count) r file second w = absurd w
+links_good (replay name script mode events wire count) r file second w = absurd w
+links_good (replay_with name script given events wire count) r file second w = absurd w
 links_good (explain name script) r file second w = absurd w
 links_good (load name seed events members raw mode) r file second w = absurd w
 links_good (audit name law) r file second w = absurd w
@@ -276,8 +276,8 @@ no_report_or_good third (audit name law) file second fault none good =
 no_report_or_good third (check name) file second fault none good = none
 no_report_or_good third (synth name) file second fault none good = none
 no_report_or_good third (pack name) file second fault none good = none
-no_report_or_good third (replay name script mode wire count) file second fault none good = none
-no_report_or_good third (replay_with name script given wire count) file second fault none good = none
+no_report_or_good third (replay name script mode events wire count) file second fault none good = none
+no_report_or_good third (replay_with name script given events wire count) file second fault none good = none
 no_report_or_good third (explain name script) file second fault none good = none
 no_report_or_good third (load name seed events members raw mode) file second fault none good = none
 no_report_or_good third (node name plan turns me patience mode) file second fault none good = none
@@ -287,8 +287,8 @@ no_report_or_stack (audit name law) file fault none reads = reads
 no_report_or_stack (check name) file fault none reads = none
 no_report_or_stack (synth name) file fault none reads = none
 no_report_or_stack (pack name) file fault none reads = none
-no_report_or_stack (replay name script mode wire count) file fault none reads = none
-no_report_or_stack (replay_with name script given wire count) file fault none reads = none
+no_report_or_stack (replay name script mode events wire count) file fault none reads = none
+no_report_or_stack (replay_with name script given events wire count) file fault none reads = none
 no_report_or_stack (explain name script) file fault none reads = none
 no_report_or_stack (load name seed events members raw mode) file fault none reads = none
 no_report_or_stack (node name plan turns me patience mode) file fault none reads = none
@@ -311,12 +311,14 @@ taken_or_refused file third stack fault means refused t =
 traces_or_good : (third : Option (List ℕ)) (job : Job) (file second : List ℕ) (stack : List LayerTree)
     (fault : PackFault) → ReadsTraces job →
     Means file stack → IsSomeAnd third (λ text. IsFault stack text fault) → Good third job file second → ⊥
-traces_or_good third (replay_with name script given wire count) file second stack fault reads means refused good =
+traces_or_good third (replay_with name script given events wire count) file second stack fault reads means refused
+    good =
     taken_or_refused file third stack fault means refused good.1
 traces_or_good third (check name) file second stack fault reads means refused good = reads
 traces_or_good third (synth name) file second stack fault reads means refused good = reads
 traces_or_good third (pack name) file second stack fault reads means refused good = reads
-traces_or_good third (replay name script mode wire count) file second stack fault reads means refused good = reads
+traces_or_good third (replay name script mode events wire count) file second stack fault reads means refused good =
+    reads
 traces_or_good third (explain name script) file second stack fault reads means refused good = reads
 traces_or_good third (load name seed events members raw mode) file second stack fault reads means refused good = reads
 traces_or_good third (node name plan turns me patience mode) file second stack fault reads means refused good = reads
@@ -328,11 +330,11 @@ traces_not_reached r fault m h = against r _ (Good r.third) ⊥ (met r _ h.other
 
 -- A job that has a file of traces reads a stack, and no report.
 traces_stack : (job : Job) → ReadsTraces job → ReadsStack job
-traces_stack (replay_with name script given wire count) reads = tt
+traces_stack (replay_with name script given events wire count) reads = tt
 traces_stack (check name) reads = absurd reads
 traces_stack (synth name) reads = absurd reads
 traces_stack (pack name) reads = absurd reads
-traces_stack (replay name script mode wire count) reads = absurd reads
+traces_stack (replay name script mode events wire count) reads = absurd reads
 traces_stack (explain name script) reads = absurd reads
 traces_stack (load name seed events members raw mode) reads = absurd reads
 traces_stack (node name plan turns me patience mode) reads = absurd reads
@@ -379,8 +381,8 @@ served_or_deaf print (node name plan turns me patience mode) r file second count
 served_or_deaf print (check name) r file second counts heard w x = x
 served_or_deaf print (synth name) r file second counts heard w x = x
 served_or_deaf print (pack name) r file second counts heard w x = x
-served_or_deaf print (replay name script mode wire count) r file second counts heard w x = x
-served_or_deaf print (replay_with name script given wire count) r file second counts heard w x = x
+served_or_deaf print (replay name script mode events wire count) r file second counts heard w x = x
+served_or_deaf print (replay_with name script given events wire count) r file second counts heard w x = x
 served_or_deaf print (explain name script) r file second counts heard w x = x
 served_or_deaf print (load name seed events members raw mode) r file second counts heard w x = x
 served_or_deaf print (audit name law) r file second counts heard w x = x
@@ -422,8 +424,8 @@ one_report_fault (audit name law) file a b x y =
 one_report_fault (check name) file a b x y = absurd x
 one_report_fault (synth name) file a b x y = absurd x
 one_report_fault (pack name) file a b x y = absurd x
-one_report_fault (replay name script mode wire count) file a b x y = absurd x
-one_report_fault (replay_with name script given wire count) file a b x y = absurd x
+one_report_fault (replay name script mode events wire count) file a b x y = absurd x
+one_report_fault (replay_with name script given events wire count) file a b x y = absurd x
 one_report_fault (explain name script) file a b x y = absurd x
 one_report_fault (load name seed events members raw mode) file a b x y = absurd x
 one_report_fault (node name plan turns me patience mode) file a b x y = absurd x
@@ -760,8 +762,8 @@ no_links (node name plan turns me patience mode) r file second alone fails = alo
 no_links (check name) r file second alone fails = fails
 no_links (synth name) r file second alone fails = fails
 no_links (pack name) r file second alone fails = fails
-no_links (replay name script mode wire count) r file second alone fails = fails
-no_links (replay_with name script given wire count) r file second alone fails = fails
+no_links (replay name script mode events wire count) r file second alone fails = fails
+no_links (replay_with name script given events wire count) r file second alone fails = fails
 no_links (explain name script) r file second alone fails = fails
 no_links (load name seed events members raw mode) r file second alone fails = fails
 no_links (audit name law) r file second alone fails = fails
@@ -769,12 +771,12 @@ no_links (audit name law) r file second alone fails = fails
 -- Where a job's files are good, its third file is there.
 third_there : (third : Option (List ℕ)) (job : Job) (file second : List ℕ) → Good third job file second →
     third_for job third ≡ None → ⊥
-third_there None (replay_with name script given wire count) file second good none = good.1.accepted
-third_there (Some third) (replay_with name script given wire count) file second good none = cc none
+third_there None (replay_with name script given events wire count) file second good none = good.1.accepted
+third_there (Some third) (replay_with name script given events wire count) file second good none = cc none
 third_there third (check name) file second good none = cc none
 third_there third (synth name) file second good none = cc none
 third_there third (pack name) file second good none = cc none
-third_there third (replay name script mode wire count) file second good none = cc none
+third_there third (replay name script mode events wire count) file second good none = cc none
 third_there third (explain name script) file second good none = cc none
 third_there third (load name seed events members raw mode) file second good none = cc none
 third_there third (node name plan turns me patience mode) file second good none = cc none
@@ -963,12 +965,12 @@ traces_are_due print r job file second third stack fault ran is_job reads is_fil
       refused_there = subst (λ o. IsSomeAnd o (λ text. IsFault stack text fault)) (sym is_third) refused
 
       unread : (job : Job) → ReadsTraces job → third_for job r.third ≡ None → ⊥
-      unread (replay_with name script given wire count) reads none =
+      unread (replay_with name script given events wire count) reads none =
           let both : ◌≡◌ {A = Option (List ℕ)} None (Some third) = sym none ∙ is_third in cc
       unread (check name) reads none = reads
       unread (synth name) reads none = reads
       unread (pack name) reads none = reads
-      unread (replay name script mode wire count) reads none = reads
+      unread (replay name script mode events wire count) reads none = reads
       unread (explain name script) reads none = reads
       unread (load name seed events members raw mode) reads none = reads
       unread (node name plan turns me patience mode) reads none = reads
@@ -1003,11 +1005,11 @@ traces_are_due print r job file second third stack fault ran is_job reads is_fil
 
 -- A job whose third file isn't there reads traces, and found none.
 has_third : (third : Option (List ℕ)) (job : Job) → third_for job third ≡ None → ReadsTraces job × (third ≡ None)
-has_third third (replay_with name script given wire count) none = (tt, none)
+has_third third (replay_with name script given events wire count) none = (tt, none)
 has_third third (check name) none = absurd (cc none)
 has_third third (synth name) none = absurd (cc none)
 has_third third (pack name) none = absurd (cc none)
-has_third third (replay name script mode wire count) none = absurd (cc none)
+has_third third (replay name script mode events wire count) none = absurd (cc none)
 has_third third (explain name script) none = absurd (cc none)
 has_third third (load name seed events members raw mode) none = absurd (cc none)
 has_third third (node name plan turns me patience mode) none = absurd (cc none)

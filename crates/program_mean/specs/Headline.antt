@@ -1,6 +1,6 @@
 -- The program as a whole: from the words and the bytes of the files to what it writes, what it says and its status.
 use Rattle.std.specs.Prelude.{◌≡◌, ℕ, ◌+◌, List, [], ◌++◌, length, Option, Some, None, IsSomeAnd, Result, Ok, Err, ◌⊎◌}
-use Rattle.std.specs.Prelude.{false}
+use Rattle.std.specs.Prelude.{Bool, false}
 use Rattle.clap.specs.Walk.{Text}
 use Rattle.outside.specs.Count.{last_count, Rose}
 use Rattle.layer_mean.specs.Tree.{LayerTree}
@@ -16,7 +16,8 @@ use Rattle.end_mean.specs.Status.{FileFault, SecondFault, Ended, done, breached,
 use Rattle.end_mean.specs.Status.{words_refused, second_refused, traces_refused, read_failed, write_failed, link_failed}
 use Rattle.end_mean.specs.Status.{no_memory, status_number, error_line}
 use Rattle.run_mean.specs.Journal.{Heard, Handed}
-use Rattle.run_mean.specs.Report.{report_lines, output_in}
+use Rattle.run_mean.specs.Report.{report_lines}
+use Rattle.group_mean.specs.Told.{replay_lines}
 use Rattle.output_mean.specs.Judged.{Means, IsGood, Refuses}
 use Rattle.group_mean.specs.Node.{Surroundings, node_words, failures}
 use Rattle.output_mean.specs.Output.{Checks, Replays, Explains, Loads, Serves, CannotListen, GoesDeaf, Audits}
@@ -61,15 +62,15 @@ RoseBy count failures = (count.after ≡ count.before + failures) ⊎ (count.aft
 
 -- Whether a job has a second file; one that has none reads as if it were empty.
 abbrev pub second_for : Job → Option (List ℕ) → Option (List ℕ)
-second_for (replay name script mode wire count) second = second
-second_for (replay_with name script given wire count) second = second
+second_for (replay name script mode events wire count) second = second
+second_for (replay_with name script given events wire count) second = second
 second_for (explain name script) second = second
 second_for (node name plan turns me patience mode) second = second
 second_for _ second = Some []
 
 -- Whether a job has a third file, which is one of traces; one that has none reads as if it were empty.
 abbrev pub third_for : Job → Option (List ℕ) → Option (List ℕ)
-third_for (replay_with name script given wire count) third = third
+third_for (replay_with name script given events wire count) third = third
 third_for _ third = Some []
 
 -- What is printed of a stack's bypasses: their guarded handlers, to be read, or their traces, to be run.
@@ -102,10 +103,10 @@ abbrev pub WritesOf : Printer → Job → Run → (file second out : List ℕ) �
 WritesOf print (check name) r file second out = Checks file out × HandsNothing r
 WritesOf print (synth name) r file second out = Prints (print handlers) file out × HandsNothing r
 WritesOf print (pack name) r file second out = Prints (print traces) file out × HandsNothing r
-WritesOf print (replay name script mode wire count) r file second out = Replays file second mode wire count out ×
-    HandsNothing r
-WritesOf print (replay_with name script given wire count) r file second out =
-    Replays file second bypass wire count out × TakesTraces file r.third × HandsNothing r
+WritesOf print (replay name script mode events wire count) r file second out =
+    Replays file second mode events wire count out × HandsNothing r
+WritesOf print (replay_with name script given events wire count) r file second out =
+    Replays file second bypass events wire count out × TakesTraces file r.third × HandsNothing r
 WritesOf print (explain name script) r file second out = Explains file second out × HandsNothing r
 WritesOf print (load name seed events members raw mode) r file second out =
     Loads file seed events members raw mode out × HandsNothing r
@@ -179,7 +180,7 @@ pub record RefusesFile (r : Run) (fault : FileFault) : Type 0 where
 
 -- A job has a file of traces: it is a replay by these.
 abbrev pub ReadsTraces : Job → Type 0
-ReadsTraces (replay_with name script given wire count) = Unit {0}
+ReadsTraces (replay_with name script given events wire count) = Unit {0}
 ReadsTraces _ = ⊥
 
 -- A job is an audit, and its file is no report.
@@ -267,12 +268,13 @@ pub record Ran (print : Printer) (r : Run) : Type 0 where
   pub lost : RoseBy r.sends (length r.surroundings.lost)
 
 -- Whatever stack a file means and whatever script is replayed over it, the run with bypasses writes exactly the report
--- of the layered meaning.
+-- of the layered meaning, with the events or without.
 abbrev pub BypassesReportAsLayers : Type 0
-BypassesReportAsLayers = (file script_text out : List ℕ) →
-    Replays file script_text bypass false false out → Replays file script_text layered false false out
+BypassesReportAsLayers = (file script_text out : List ℕ) (events : Bool) →
+    Replays file script_text bypass events false false out → Replays file script_text layered events false false out
 
--- What is written of a script without the packets' bytes and the number of visits is its report, in either mode.
+-- What is written of a script without the events, the packets' bytes and the number of visits is its report, in either
+-- mode.
 abbrev pub OneReport : Type 0
 OneReport = (stack : List LayerTree) (plans : List Plan) (script : Script) (mode : Mode) →
-    output_in stack plans script mode false false ≡ report_lines stack plans script
+    replay_lines stack plans script mode false false false ≡ report_lines stack plans script

@@ -31,8 +31,8 @@ abbrev pub second_fault : Job → List LayerTree → List ℕ → Option SecondF
 second_fault (check file) stack text = None
 second_fault (synth file) stack text = None
 second_fault (pack file) stack text = None
-second_fault (replay file script mode wire count) stack text = after_script stack (script_of text)
-second_fault (replay_with file script traces wire count) stack text = after_script stack (script_of text)
+second_fault (replay file script mode events wire count) stack text = after_script stack (script_of text)
+second_fault (replay_with file script traces events wire count) stack text = after_script stack (script_of text)
 second_fault (explain file script) stack text = after_script stack (script_of text)
 second_fault (load file seed events members raw mode) stack text = crowd_fault stack members
 second_fault (node file plan turns me patience mode) stack text = after_plan stack me (node_plan text)

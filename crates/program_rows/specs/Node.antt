@@ -1,5 +1,5 @@
--- A node of all three members of the counter stack through two turns, the fourth receive of which fails.
-use Rattle.std.specs.Prelude.{ℕ, List, [], ◌∷◌, ◌++◌, codes}
+-- A node of all three members of the counter stack through two turns, in the second of which the first receive fails.
+use Rattle.std.specs.Prelude.{ℕ, List, [], ◌∷◌, ◌++◌, codes, replicate}
 use Rattle.run_mean.specs.Mode.{bypass}
 use Rattle.run_mean.specs.Journal.{Heard, silence, failure}
 use Rattle.file_mean.specs.CounterFile as counter
@@ -19,7 +19,7 @@ abbrev pub surroundings : List Heard → Surroundings
 surroundings heard = record { clock = 0 ∷ 1 ∷ []; heard = heard; lost = [] }
 
 abbrev pub until_failure : List Heard
-until_failure = silence ∷ silence ∷ silence ∷ failure ∷ []
+until_failure = replicate 48 silence ++ failure ∷ []
 
 abbrev pub six_ticks : List ℕ
 six_ticks =
@@ -32,5 +32,5 @@ EndsThere = GoesDeaf counter.text plan (words 0) (surroundings until_failure) si
 
 -- With patience for one failure it says which member was deaf, and goes on.
 abbrev pub GoesOn : Type 0
-GoesOn = Serves counter.text plan (words 1) (surroundings (until_failure ++ silence ∷ silence ∷ []))
+GoesOn = Serves counter.text plan (words 1) (surroundings (until_failure ++ replicate 47 silence))
     (six_ticks ++ codes "deaf 0\n" ++ codes "end 6\n") []

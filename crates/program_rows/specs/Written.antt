@@ -17,8 +17,8 @@ report = codes "packet 1 0 all cnt.num(0) 6869\n" ++ codes "deliver 1 cast 0 686
 
 -- The counter layer's file and this script are replayed to this report, in either mode.
 abbrev pub ReplaysCounter : Type 0
-ReplaysCounter = Replays counter.text script layered false false report ×
-    Replays counter.text script bypass false false report
+ReplaysCounter = Replays counter.text script layered false false false report ×
+    Replays counter.text script bypass false false false report
 
 -- With bypasses, and with the packet's bytes and the number of visits.
 abbrev pub short_report : List ℕ
@@ -27,7 +27,16 @@ short_report =
     ++ codes "deliver 1 cast 0 6869\n" ++ codes "end 2\n" ++ codes "visits 0\n"
 
 abbrev pub ReplaysShort : Type 0
-ReplaysShort = Replays counter.text script bypass true true short_report
+ReplaysShort = Replays counter.text script bypass false true true short_report
+
+-- With the events.
+abbrev pub told_report : List ℕ
+told_report =
+    codes "> cast 0 6869\n" ++ codes "packet 1 0 all cnt.num(0) 6869\n" ++ codes "> give 1 1\n"
+    ++ codes "deliver 1 cast 0 6869\n" ++ codes "end 2\n"
+
+abbrev pub ReplaysTold : Type 0
+ReplaysTold = Replays counter.text script bypass true false false told_report
 
 -- The stack of the whole library is accepted.
 abbrev pub ChecksLibrary : Type 0
@@ -46,7 +55,7 @@ flip_report =
     ++ codes "end 3\n" ++ codes "visits 0\n"
 
 abbrev pub ReplaysFlips : Type 0
-ReplaysFlips = Replays flip.text flips bypass true true flip_report
+ReplaysFlips = Replays flip.text flips bypass false true true flip_report
 
 -- A packet of the counter layer that is given again isn't the one that is due: the condition in line 9 of its file
 -- fails.

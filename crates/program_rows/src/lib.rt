@@ -4,7 +4,7 @@
 ghost use Rattle.program_rows.specs.Refused.{RefusesBadByte, RefusesCycle, RefusesEmpty, RefusesUnknown, RefusesWeight};
 ghost use Rattle.program_rows.specs.Node.{EndsThere, GoesOn};
 ghost use Rattle.program_rows.specs.Written.{AuditsCrossed, ChecksLibrary, ExplainsCounter, ExplainsLate};
-ghost use Rattle.program_rows.specs.Written.{ReplaysCounter, ReplaysFlips, ReplaysShort};
+ghost use Rattle.program_rows.specs.Written.{ReplaysCounter, ReplaysFlips, ReplaysShort, ReplaysTold};
 
 /// Files that are refused, with their causes.
 pub fn refuses()
@@ -27,6 +27,11 @@ pub fn replays_counter()
 /// A replay of the counter layer with bypasses, with the packet's bytes and the number of visits.
 pub fn replays_short()
     ensures { ReplaysShort }
+{}
+
+/// A replay of the counter layer with the events.
+pub fn replays_told()
+    ensures { ReplaysTold }
 {}
 
 /// A replay over a file whose layer has two common cases.

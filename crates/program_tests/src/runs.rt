@@ -1,6 +1,7 @@
 //! Runs over memory.
 
-use outside::{Clock, Links, MemClock, MemLinks, MemShelf, MemSink, NamedFile, Shelf, Sink};
+use live_outside::{LiveLinks, LiveSink};
+use outside::{Clock, MemClock, MemLinks, MemShelf, MemSink, NamedFile, Shelf, Sink};
 use stackc_run::run;
 use std::alloc::{AllocError, Global};
 
@@ -50,7 +51,7 @@ impl Left {
 }
 
 /// A run. What it says of concrete files, sinks and links isn't asked here, and would cost each test much.
-pub(crate) fn run_over<S: Shelf, O: Sink, E: Sink, N: Links, C: Clock>(
+pub(crate) fn run_over<S: Shelf, O: LiveSink, E: Sink, N: LiveLinks, C: Clock>(
     alloc: Global,
     words: &[String],
     shelf: &mut S,

@@ -1,7 +1,8 @@
 //! Runs over streams that lack something.
 
 use crate::runs::{COUNTER, Expected, FIRST, Left, REPLAY, no_links, pair, words};
-use outside::{Clock, Links, MemClock, MemShelf, Shelf, StdSink};
+use live_outside::LiveLinks;
+use outside::{Clock, MemClock, MemShelf, Shelf, StdSink};
 use stackc_run::run_through;
 use std::alloc::{AllocError, Global};
 use std::io::{self, ErrorKind, Write};
@@ -31,7 +32,7 @@ impl Write for Narrow {
 }
 
 /// A run over streams. What it says of concrete ones isn't asked here.
-fn run_narrowly<S: Shelf, O: Write + Drop, E: Write + Drop, N: Links, C: Clock>(
+fn run_narrowly<S: Shelf, O: Write + Drop, E: Write + Drop, N: LiveLinks, C: Clock>(
     alloc: Global,
     words: &[String],
     shelf: &mut S,

@@ -7,3 +7,4 @@ pub mod Replays
 pub mod Counts
 pub mod Missed
 pub mod SmallRuns
+pub mod Told

@@ -17,7 +17,8 @@ use Rattle.run_mean.specs.Member.{Output, deliver_cast, deliver_send, block, ann
 use Rattle.run_mean.specs.Member.{Step, step_from}
 use Rattle.run_mean.specs.World.{World, Did, taken, refused, absent, shown, here_of, packet_number}
 use Rattle.run_mean.specs.Report.{Moment, moments, moment_lines, run_of, end_line, visits_line, visits_of, wanted_lines}
-use Rattle.run_mean.specs.Report.{report_lines, mode_if, output_in}
+use Rattle.run_mean.specs.Report.{report_lines, mode_if}
+use Rattle.group_mean.specs.Told.{replay_lines}
 use Rattle.member_laws.specs.Steps.{WireIsSpelled}
 use Rattle.member_laws.proofs.Wires.{wires_are_spelled}
 use Rattle.member_laws.proofs.Members.{each_of}
@@ -217,16 +218,16 @@ report_counted stack script mode count = counted_last None stack (plans_of stack
     (run_of stack (plans_of stack) script)
 
 pub replays_write_the_report : ReplaysWriteTheReport
-unfolding output_in
+unfolding replay_lines
 replays_write_the_report file script_text out mode count r = r.written ∙
     ap concat (sym (report_counted r.stack r.script mode count))
 
 pub replays_write_datagrams : ReplaysWriteDatagrams
-unfolding output_in
+unfolding replay_lines
 replays_write_datagrams file script_text out mode count r =
     let replay : IsReplay file script_text r.stack r.script = record { means = r.means; spelled = r.spelled } in
     let run = run_of r.stack (plans_of r.stack) r.script in
-    let lines = output_in r.stack (plans_of r.stack) r.script mode true count in
+    let lines = replay_lines r.stack (plans_of r.stack) r.script mode false true count in
     record {
       stack = r.stack;
       script = r.script;

@@ -6,3 +6,4 @@ pub mod Datagrams
 pub mod Missed
 pub mod Replays
 pub mod Samples
+pub mod Told

@@ -84,10 +84,11 @@ count_lines stack script mode count =
     (sum_by (visits_of counting stack (plans_of stack)) (run_of stack (plans_of stack) script)))
     (option_to_list (mode_if count mode))
 
--- What a replay writes, in whatever mode, without its packets' bytes: the report of the layered meaning, and that line.
+-- What a replay writes, in whatever mode, without the events and its packets' bytes: the report of the layered meaning,
+-- and that line.
 abbrev pub ReplaysWriteTheReport : Type 0
 ReplaysWriteTheReport = (file script_text out : List ℕ) (mode : Mode) (count : Bool)
-    (r : Replays file script_text mode false count out) →
+    (r : Replays file script_text mode false false count out) →
     out ≡ concat (report_lines r.stack (plans_of r.stack) r.script ++ count_lines r.stack r.script mode count)
 
 -- What a replay writes with its packets' bytes: the same lines, and after the line of each packet the bytes of its
@@ -105,7 +106,7 @@ pub record WritesDatagrams (file script_text : List ℕ) (mode : Mode) (count : 
 -- Each replay with its packets' bytes writes this.
 abbrev pub ReplaysWriteDatagrams : Type 0
 ReplaysWriteDatagrams = (file script_text out : List ℕ) (mode : Mode) (count : Bool) →
-    Replays file script_text mode true count out →
+    Replays file script_text mode false true count out →
     WritesDatagrams file script_text mode count out
 
 -- Along a replay the first decision of a step that doesn't go as predicted in a case is one on the way of the entry's

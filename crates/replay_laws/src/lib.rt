@@ -13,6 +13,8 @@ ghost use Rattle.replay_laws.specs.Datagrams.{DatagramsAreNumbered, LinesAreWove
 ghost use Rattle.replay_laws.specs.Missed.{MissedIsOnTheWay, PredictedDecideAll};
 ghost use Rattle.replay_laws.specs.Replays.{PacketsExpand, ReplaysMissOnTheWay, ReplaysWriteDatagrams};
 ghost use Rattle.replay_laws.specs.Replays.{ReplaysWriteTheReport, RunsExpand};
+ghost use Rattle.replay_laws.specs.Told.{EventsAreTheScript, ReplaysTellEvents, UntoldIsTheOutput};
+ghost use Rattle.replay_laws.specs.Told.{WithoutEventsIsTheOutput};
 
 /// A script that a text spells is made of bytes and numbers, and can be run.
 pub fn scripts_are_given()
@@ -118,6 +120,26 @@ pub fn replays_write_the_report()
 /// datagram that spells it.
 pub fn replays_write_datagrams()
     ensures { ReplaysWriteDatagrams }
+{}
+
+/// Without the events a replay writes the output that knows of none, byte for byte.
+pub fn untold_is_the_output()
+    ensures { UntoldIsTheOutput }
+{}
+
+/// A report with the events is the one without them, in order, once the lines of events are taken out.
+pub fn without_events_is_the_output()
+    ensures { WithoutEventsIsTheOutput }
+{}
+
+/// The lines that are taken out are the script's events, in order.
+pub fn events_are_the_script()
+    ensures { EventsAreTheScript }
+{}
+
+/// So each replay with the events tells those of its script, and else writes what it writes without them.
+pub fn replays_tell_events()
+    ensures { ReplaysTellEvents }
 {}
 
 /// Along a replay each step's first decision that doesn't go as predicted is one on the way of its entry's shape.

@@ -1,6 +1,7 @@
 //! The lines of what one event of a script yielded.
 
 ghost use Rattle.std.specs.Prelude.{◌≡◌, ◌+◌, ◌^◌, ◌<◌, ◌∷◌, ◌++◌, [], OnOk, length};
+ghost use Rattle.group_mean.specs.Told.{event_line, event_lines};
 ghost use Rattle.stack_judge.specs.Answer.{stack_tree};
 ghost use Rattle.group_feed.specs.Showing.{shown_in};
 ghost use Rattle.stack_shapes.specs.Trees.{plans_tree};
@@ -19,7 +20,7 @@ use crate::state::write_member;
 use group_feed::Shows;
 use msg_core::Memory;
 use outside::{Sink, SinkError, put_line};
-use report_lines::{Line, absent_line, out_line, refused_line, view_line};
+use report_lines::{Line, absent_line, journal_line, out_line, refused_line, view_line};
 use script_mean::{ScriptEvent, member_of};
 use view_core::{Change, Did, Refusal, Stepped};
 
@@ -122,10 +123,39 @@ fn write_absent<O: Sink>(pen: &mut Pen, id: u8, number: u32, out: &mut O) -> Res
     put_line(pen.line.slice(), out)
 }
 
-/// Puts the lines of what an event yielded, one by one: those of a step's outputs, and of where the member is then; a
-/// refusal; a packet that isn't there; or the member that is shown, as the group has it. Where it is wanted, the bytes
-/// of each packet stand after its line, as it is sent: short under the plan beside it, or in full.
-pub fn write_event<S: Shows, O: Sink>(
+/// Puts the line of an event, as a journal has it.
+pub fn write_journal<O: Sink>(
+    pen: &mut Pen,
+    event: &ScriptEvent,
+    out: &mut O,
+) -> Result<(), SinkError>
+    ensures { Wrote (event_line event.now ∷ [])
+        (tells_of O.Sink out.old) (tells_of O.Sink out.new) result }
+{
+    pen.line.clear();
+    journal_line(&mut pen.line, event)?;
+    put_line(pen.line.slice(), out)
+}
+
+/// Puts the line of an event, where events are told.
+fn write_told<O: Sink>(
+    pen: &mut Pen,
+    events: bool,
+    event: &ScriptEvent,
+    out: &mut O,
+) -> Result<(), SinkError>
+    ensures { Wrote (event_lines events event.now)
+        (tells_of O.Sink out.old) (tells_of O.Sink out.new) result }
+{
+    if events {
+        write_journal(pen, event, out)
+    } else {
+        Ok(())
+    }
+}
+
+/// Puts the lines of what an event yielded, one by one.
+fn write_yield<S: Shows, O: Sink>(
     pen: &mut Pen,
     manner: Manner<'_>,
     group: &S,
@@ -152,6 +182,29 @@ pub fn write_event<S: Shows, O: Sink>(
         Did::Absent => write_absent(pen, id, packet_given(outcome.event), out),
         Did::Shown => write_member(pen, manner.stack, id, group, out),
     }
+}
+
+/// Puts the line of an event, where events are told, and then the lines of what it yielded, one by one: those of a
+/// step's outputs, and of where the member is then; a refusal; a packet that isn't there; or the member that is shown,
+/// as the group has it. Where it is wanted, the bytes of each packet stand after its line, as it is sent: short under
+/// the plan beside it, or in full.
+pub fn write_event<S: Shows, O: Sink>(
+    pen: &mut Pen,
+    manner: Manner<'_>,
+    group: &S,
+    outcome: &Outcome<'_>,
+    out: &mut O,
+) -> Result<(), SinkError>
+    requires { outcome.now.first + length outcome.now.outputs.now.outputs < 2 ^ 64 }
+    ensures { Wrote (event_lines manner.entry.events outcome.now.event.now
+        ++ told_lines (stack_tree manner.entry.stack.now) (plans_tree manner.entry.plans.now)
+        manner.entry.wire outcome.now.event.now
+        outcome.now.did outcome.now.outputs.now.outputs (shown_in (S.group group.now) (member_of outcome.now.event.now))
+        outcome.now.first)
+        (tells_of O.Sink out.old) (tells_of O.Sink out.new) result }
+{
+    write_told(pen, manner.events, outcome.event, out)?;
+    write_yield(pen, manner, group, outcome, out)
 }
 
 /// Puts the last line of a report.

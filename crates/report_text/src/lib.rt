@@ -14,7 +14,7 @@ mod tally;
 mod wire;
 
 pub use counts::Counts;
-pub use event::{write_change, write_end, write_event, write_refusal, write_visits};
+pub use event::{write_change, write_end, write_event, write_journal, write_refusal, write_visits};
 pub use laws::{counted_is_the_tally, counted_with_the_moment, told_is_the_moment};
 pub use manner::{Issuer, Manner, Outcome};
 pub use output::{number_following, put_output};

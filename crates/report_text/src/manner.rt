@@ -7,12 +7,13 @@ use stack_shapes::Plans;
 use step_outputs::Outputs;
 use view_core::Did;
 
-/// How the lines of a run are written: with the names of its stack, and, where wanted, with the bytes of each packet
-/// after its line, as it is sent with these plans.
+/// How the lines of a run are written: with the names of its stack, and, where wanted, with each event before its lines
+/// and with the bytes of each packet after its line, as it is sent with these plans.
 #[derive(Clone, Copy)]
 pub struct Manner<'a> {
     pub stack: &'a NamedStack,
     pub plans: &'a Plans,
+    pub events: bool,
     pub wire: bool,
 }
 

@@ -1,7 +1,8 @@
 -- What one event gave.
-use Rattle.std.proofs.Common.{◌≡◌, ℕ, ◌+◌, add-zero, Bool, List, length, refl, sym, ap, subst, ◌∙◌}
+use Rattle.std.proofs.Common.{◌≡◌, ℕ, ◌+◌, ◌++◌, add-zero, Bool, List, length, refl, sym, ap, subst, ◌∙◌}
 use Rattle.std.specs.Prelude.{Result, Ok, Err, slice_index_or, Option, Some, None}
 use Rattle.outside.specs.declared.sink.SinkError.{SinkError}
+use Rattle.group_mean.specs.Told.{event_lines, lines_with_events}
 use Rattle.run_mean.specs.Mode.{Mode}
 use Rattle.layer_mean.specs.Tree.{LayerTree}
 use Rattle.msg_core.specs.declared.packet.Packet.{Packet}
@@ -104,7 +105,8 @@ module _ (stack : List LayerTree) (plans : List Plan) (w : World) where
   same_world (script.Raw id bytes) is = absurd (step_shows_none id (datagram bytes) (member_at w id) is)
   same_world (script.Show id) is = refl
 
-module _ (mode : Mode) (stack : List LayerTree) (plans : List Plan) (wire : Bool) (w : World) (event : ScriptEvent)
+module _ (mode : Mode) (stack : List LayerTree) (plans : List Plan) (events wire : Bool) (w : World)
+    (event : ScriptEvent)
     (old new : Playing)
     (outs : List (Output × Option ℕ)) (did : Did)
     (h : Happened mode stack plans w event new.group outs old.visits new.visits did) where
@@ -121,11 +123,15 @@ module _ (mode : Mode) (stack : List LayerTree) (plans : List Plan) (wire : Bool
 
   pub told_event : (first : ℕ) (a b : Tells) (r : Result (Unit {0}) SinkError) → first ≡ length old.group.spelled + 1 →
       Stands old.group w →
-      Wrote (told_lines stack plans wire event did outs (shown_in new.group (member_of event)) first) a b r →
-      TellsEvent mode stack plans wire w event old new a b r
+      Wrote (event_lines events event ++ told_lines stack plans wire event did outs
+      (shown_in new.group (member_of event)) first) a b r →
+      TellsEvent mode stack plans events wire w event old new a b r
   told_event first a b r number stands wrote =
-      go r (wrote_as a b (told_lines stack plans wire event did outs (shown_in new.group (member_of event)) first)
-      (moment_lines stack plans (mode_if wire mode) (moment_at stack plans w event)) r same wrote) where
+      go r (wrote_as a b
+      (event_lines events event ++ told_lines stack plans wire event did outs (shown_in new.group (member_of event))
+      first)
+      (lines_with_events events stack plans (mode_if wire mode) (moment_at stack plans w event)) r
+      (ap (λ lines. event_lines events event ++ lines) same) wrote) where
         numbered : first ≡ length w.packets + 1
         numbered = number ∙ ap (λ n. n + 1) (count_packets old.group w stands)
 
@@ -135,8 +141,8 @@ module _ (mode : Mode) (stack : List LayerTree) (plans : List Plan) (wire : Bool
             (shown_in new.group (member_of event)) first h.told member_shown numbered
 
         go : (r : Result (Unit {0}) SinkError) →
-            Wrote (moment_lines stack plans (mode_if wire mode) (moment_at stack plans w event)) a b r →
-            TellsEvent mode stack plans wire w event old new a b r
+            Wrote (lines_with_events events stack plans (mode_if wire mode) (moment_at stack plans w event)) a b r →
+            TellsEvent mode stack plans events wire w event old new a b r
         go (Ok done) gained = record {
           world = h.world;
           visits = visits_told mode stack plans (happens stack plans w event).did outs old.visits new.visits did h.told;

@@ -6,7 +6,8 @@ use Rattle.layer_mean.specs.Tree.{LayerTree}
 use Rattle.script_mean.specs.declared.event.ScriptEvent.{ScriptEvent}
 use Rattle.stack_mean.specs.Plan.{Plan}
 use Rattle.run_mean.specs.Mode.{Mode}
-use Rattle.run_mean.specs.Report.{Moment, mode_if, moment_lines, visits_in, visits_line}
+use Rattle.group_mean.specs.Told.{lines_with_events}
+use Rattle.run_mean.specs.Report.{Moment, mode_if, visits_in, visits_line}
 use Rattle.run_mean.specs.World.{World, happens}
 use Rattle.outside.specs.Lines.{Gains, Wrote}
 use Rattle.outside.specs.Tells.{Tells}
@@ -41,21 +42,24 @@ abbrev pub moment_at : List LayerTree → List Plan → World → ScriptEvent �
 moment_at stack plans w event = record { before = w; event = event; happening = happens stack plans w event }
 
 -- An event was played and its lines are written: the run stands at the world after it, and its visits are counted.
-pub record IsTold (mode : Mode) (stack : List LayerTree) (plans : List Plan) (wire : Bool) (w : World)
+pub record IsTold (mode : Mode) (stack : List LayerTree) (plans : List Plan) (events wire : Bool) (w : World)
     (event : ScriptEvent) (old new : Playing)
     (before after : Tells) : Type 0 where
   pub world : Stands new.group (happens stack plans w event).world
   pub visits : new.visits ≡ old.visits + visits_in mode stack plans (happens stack plans w event).did
-  pub gained : Gains before after (moment_lines stack plans (mode_if wire mode) (moment_at stack plans w event))
+  pub gained : Gains before after
+      (lines_with_events events stack plans (mode_if wire mode) (moment_at stack plans w event))
 
 -- The event was told so, or its lines were cut short.
-abbrev pub TellsEvent : Mode → List LayerTree → List Plan → Bool → World → ScriptEvent → (old new : Playing) →
+abbrev pub TellsEvent : Mode → List LayerTree → List Plan → (events wire : Bool) → World → ScriptEvent →
+    (old new : Playing) →
     (before after : Tells) →
     Result (Unit {0}) SinkError → Type 0
-TellsEvent mode stack plans wire w event old new before after (Ok done) =
-    IsTold mode stack plans wire w event old new before after
-TellsEvent mode stack plans wire w event old new before after (Err e) =
-    Wrote (moment_lines stack plans (mode_if wire mode) (moment_at stack plans w event)) before after (Err e)
+TellsEvent mode stack plans events wire w event old new before after (Ok done) =
+    IsTold mode stack plans events wire w event old new before after
+TellsEvent mode stack plans events wire w event old new before after (Err e) =
+    Wrote (lines_with_events events stack plans (mode_if wire mode) (moment_at stack plans w event)) before after
+    (Err e)
 
 -- An event was played and its lines are counted, after those of any run.
 pub record IsCounted (mode : Mode) (stack : List LayerTree) (plans : List Plan) (w : World) (event : ScriptEvent)

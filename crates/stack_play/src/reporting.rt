@@ -7,7 +7,8 @@ ghost use Rattle.group_feed.specs.Beginning.{IsAtFirst, IsReady};
 ghost use Rattle.group_feed.specs.Standing.{Stands};
 ghost use Rattle.outside.specs.Lines.{Wrote};
 ghost use Rattle.outside.specs.Tells.{tells_of};
-ghost use Rattle.run_mean.specs.Report.{end_line, mode_if, moment_lines, output_in, run_of, visits_of};
+ghost use Rattle.group_mean.specs.Told.{lines_with_events, replay_lines};
+ghost use Rattle.run_mean.specs.Report.{end_line, mode_if, run_of, visits_of};
 ghost use Rattle.run_mean.specs.World as mean;
 ghost use Rattle.script_mean.specs.Event.{member_of};
 ghost use Rattle.script_mean.specs.Script.{IsRunnable};
@@ -44,8 +45,9 @@ pub fn write_report<G: Shows, O: Sink>(
         (G.group group.old) outputs.places }
     requires runs { IsRunnable report.script.now }
     requires few { length report.script.now.events ≤ most_events }
-    ensures { Wrote (output_in (stack_tree report.entry.manner.stack.now) (plans_tree report.entry.manner.plans.now)
-        report.entry.script.now (G.group group.old).mode report.entry.manner.wire report.entry.count)
+    ensures { Wrote (replay_lines (stack_tree report.entry.manner.stack.now) (plans_tree report.entry.manner.plans.now)
+        report.entry.script.now (G.group group.old).mode report.entry.manner.events
+        report.entry.manner.wire report.entry.count)
         (tells_of O.Sink out.old) (tells_of O.Sink out.new) result }
 {
     let mut run = Run::new(alloc, outputs);
@@ -88,8 +90,8 @@ fn write_events<G: Shows, O: Sink>(
     requires runs { IsRunnable script.now }
     requires few { length script.now.events ≤ most_events }
     ensures lines { Wrote
-        (flat_map (moment_lines (stack_tree manner.entry.stack.now) (plans_tree manner.entry.plans.now)
-        (mode_if manner.entry.wire (G.group group.old).mode))
+        (flat_map (lines_with_events manner.entry.events (stack_tree manner.entry.stack.now)
+        (plans_tree manner.entry.plans.now) (mode_if manner.entry.wire (G.group group.old).mode))
         (run_of (stack_tree manner.entry.stack.now) (plans_tree manner.entry.plans.now) script.now))
         (tells_of O.Sink out.old) (tells_of O.Sink out.new) result }
     ensures visits { OnOk result (run.new.visits
@@ -120,7 +122,7 @@ fn play_event<G: Shows, O: Sink>(
         (playing (G.group group.old) run.old) (playing (G.group group.new) run.new) }
     ensures told { (w : mean.World) → Stands (G.group group.old) w →
         TellsEvent (G.group group.old).mode (stack_tree manner.entry.stack.now) (plans_tree manner.entry.plans.now)
-        manner.entry.wire
+        manner.entry.events manner.entry.wire
         w event.now (playing (G.group group.old) run.old) (playing (G.group group.new) run.new)
         (tells_of O.Sink out.old) (tells_of O.Sink out.new) result }
 {

@@ -22,8 +22,8 @@ alone : (job : Job) → way_of job ≡ over_files → IsAlone job
 alone (check file) is = tt
 alone (synth file) is = tt
 alone (pack file) is = tt
-alone (replay file script mode wire count) is = tt
-alone (replay_with file script given wire count) is = tt
+alone (replay file script mode events wire count) is = tt
+alone (replay_with file script given events wire count) is = tt
 alone (explain file script) is = tt
 alone (load file seed events members raw mode) is = tt
 alone (node file plan turns me patience mode) is = absurd (cc is)
@@ -34,8 +34,8 @@ node_is : (job : Job) (w : Node) → way_of job ≡ over_network w → job ≡ j
 node_is (check file) w is = absurd (cc is)
 node_is (synth file) w is = absurd (cc is)
 node_is (pack file) w is = absurd (cc is)
-node_is (replay file script mode wire count) w is = absurd (cc is)
-node_is (replay_with file script given wire count) w is = absurd (cc is)
+node_is (replay file script mode events wire count) w is = absurd (cc is)
+node_is (replay_with file script given events wire count) w is = absurd (cc is)
 node_is (explain file script) w is = absurd (cc is)
 node_is (load file seed events members raw mode) w is = absurd (cc is)
 node_is (node file plan turns me patience mode) w is =

@@ -21,8 +21,8 @@ abbrev pub way_of : Job → Way
 way_of (check file) = over_files
 way_of (synth file) = over_files
 way_of (pack file) = over_files
-way_of (replay file script mode wire count) = over_files
-way_of (replay_with file script given wire count) = over_files
+way_of (replay file script mode events wire count) = over_files
+way_of (replay_with file script given events wire count) = over_files
 way_of (explain file script) = over_files
 way_of (load file seed events members raw mode) = over_files
 way_of (node file plan turns me patience mode) =

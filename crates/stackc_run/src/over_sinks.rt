@@ -10,7 +10,8 @@ ghost use Rattle.stackc_run.specs.Performed.{Does};
 
 use crate::perform::perform;
 use job_ends::say;
-use outside::{Clock, Links, Shelf, Sink};
+use live_outside::{LiveLinks, LiveSink};
+use outside::{Clock, Shelf, Sink};
 use std::alloc::Global;
 
 /// Does the job that the words name, the program's own name left out, and answers the program's
@@ -26,7 +27,7 @@ use std::alloc::Global;
 /// (`replays_write_the_report`), each datagram spells the layered packet of its number (`packets_expand`), and one is
 /// short exactly where its step was a common cast or send of an application whose output has a plan
 /// (`short_exactly_where`).
-pub fn run<S: Shelf, O: Sink, E: Sink, N: Links, C: Clock>(
+pub fn run<S: Shelf, O: LiveSink, E: Sink, N: LiveLinks, C: Clock>(
     alloc: Global,
     words: &[String],
     shelf: &mut S,

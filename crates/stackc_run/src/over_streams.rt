@@ -9,7 +9,8 @@ ghost use Rattle.program_streams.specs.Streams.{over};
 
 use crate::perform::perform;
 use job_ends::close;
-use outside::{Clock, Links, Shelf, Sink, StdSink};
+use live_outside::LiveLinks;
+use outside::{Clock, Shelf, Sink, StdSink};
 use std::alloc::Global;
 use std::io::Write;
 
@@ -18,7 +19,7 @@ use std::io::Write;
 /// The status is 0, or 8, only where the job's whole output was put and the output's stream got all of it. Where the
 /// stream did not, that is said as a fault of writing; any other end of a job stays. What was said is handed on to the
 /// stream of `err`, or that sink counted a fault.
-pub fn run_through<S: Shelf, O: Write + Drop, E: Write + Drop, N: Links, C: Clock>(
+pub fn run_through<S: Shelf, O: Write + Drop, E: Write + Drop, N: LiveLinks, C: Clock>(
     alloc: Global,
     words: &[String],
     shelf: &mut S,

@@ -13,13 +13,14 @@ use bypass_jobs::{pack, synthesize};
 use file_jobs::{audit_report, check_stack};
 use job_ends::Ending;
 use job_text::{Job, job};
+use live_outside::{LiveLinks, LiveSink};
 use node_jobs::run_node;
-use outside::{Clock, Links, Shelf, Sink};
+use outside::{Clock, Shelf};
 use play_jobs::{explain_script, load_stack, replay_script, replay_with};
 use std::alloc::Global;
 
 /// Does the job that the words name, and answers how it ended.
-pub(crate) fn perform<S: Shelf, O: Sink, N: Links, C: Clock>(
+pub(crate) fn perform<S: Shelf, O: LiveSink, N: LiveLinks, C: Clock>(
     alloc: Global,
     words: &[String],
     shelf: &mut S,
@@ -39,7 +40,7 @@ pub(crate) fn perform<S: Shelf, O: Sink, N: Links, C: Clock>(
 }
 
 /// Does a job.
-fn perform_job<S: Shelf, O: Sink, N: Links, C: Clock>(
+fn perform_job<S: Shelf, O: LiveSink, N: LiveLinks, C: Clock>(
     alloc: Global,
     job: &Job<'_>,
     shelf: &mut S,

@@ -7,6 +7,7 @@ ghost use Rattle.outside.specs.Links.{Listens, listen_of, Sends, Receives, Write
 ghost use Rattle.udp_link.specs.Listening.{listening_in, peers_in, peers_of, place_in};
 
 use crate::member::{Member, address};
+use live_outside::LiveLinks;
 use outside::{LONGEST_DATAGRAM, LinkError, Links, MOST_PEERS, Peer};
 use std::alloc::{AllocError, Global};
 use std::net::Net;
@@ -177,4 +178,30 @@ impl<R: Net + Drop> Links for UdpLinks<R> {
             }
         }
     }
+}
+
+impl<R: Net + Drop> LiveLinks for UdpLinks<R> {
+    fn wait(&mut self)
+        ensures faults { self.new.faults ≡ self.old.faults }
+        ensures sends { self.new.send_faults ≡ self.old.send_faults }
+        ensures listening { (m : ℕ) → listening_in self.new.members.items m ≡ listening_in self.old.members.items m }
+        ensures told { ⟦<UdpLinks<R> as Links>⟧.told self.new ≡ ⟦<UdpLinks<R> as Links>⟧.told self.old }
+        ensures members { self.new.members ≡ self.old.members }
+    {
+        if let Some(last) = quiet_listener(&self.members) {
+            last.wait();
+        }
+    }
+}
+
+/// The last member that listens, where none of them has news.
+fn quiet_listener(members: &[Option<Member>]) -> Option<&Member> {
+    let mut last = None;
+    for listener in members.iter().flatten() {
+        if listener.has_news() {
+            return None;
+        }
+        last = Some(listener);
+    }
+    last
 }

@@ -9,8 +9,8 @@ use std::io::ErrorKind;
 use std::net::{Ipv4Addr, Net, SocketAddr, SocketAddrV4, UdpSocket};
 use std::time::Duration;
 
-/// How long a receive waits for a datagram, and a send for room, in milliseconds: long enough that a node that hears
-/// nothing leaves the processor to others.
+/// How long it is waited for a datagram, and a send waits for room, in milliseconds: long enough that a node that
+/// hears nothing leaves the processor to others.
 const PATIENCE: u64 = 1;
 
 const NOBODY: Peer = Peer {
@@ -18,7 +18,8 @@ const NOBODY: Peer = Peer {
     port: 0,
 };
 
-/// A socket that waits a moment and no longer, where it is bound, and the peers that it sends to.
+/// A socket that waits only where it is asked to, and then a moment and no longer; where it is bound, and the peers
+/// that it sends to.
 #[derive(Drop)]
 pub(crate) struct Member {
     socket: UdpSocket,
@@ -42,6 +43,7 @@ impl Member {
         let patience = Some(Duration::from_millis(PATIENCE));
         socket.set_read_timeout(patience)?;
         socket.set_write_timeout(patience)?;
+        socket.set_nonblocking(true)?;
         Ok(Member {
             socket,
             place,
@@ -58,27 +60,54 @@ impl Member {
         self.peers[to as usize]
     }
 
-    /// Whether the datagram was handed on whole.
+    /// Whether the datagram was handed on whole. Where there is no room for it, it is waited for some.
     pub(crate) fn send(&self, to: SocketAddr, bytes: &[u8]) -> bool {
-        matches!(self.socket.send_to(bytes, to), Ok(count) if count == bytes.len())
+        match self.socket.send_to(bytes, to) {
+            Ok(count) => count == bytes.len(),
+            Err(error) if is_for_later(error.kind()) => self.send_in_time(to, bytes),
+            Err(_) => false,
+        }
     }
 
-    /// A datagram that waits, which now stands at the front of `into`. A receive that a signal interrupts, as where the
-    /// process is stopped and goes on, met none.
+    /// Whether the datagram was handed on whole, where it may wait a moment for room.
+    fn send_in_time(&self, to: SocketAddr, bytes: &[u8]) -> bool {
+        let may_wait = self.socket.set_nonblocking(false).is_ok();
+        let sent = matches!(self.socket.send_to(bytes, to), Ok(count) if count == bytes.len());
+        let waits_no_more = self.socket.set_nonblocking(true).is_ok();
+        may_wait && sent && waits_no_more
+    }
+
+    /// A datagram that waits, which now stands at the front of `into`. Where a signal came between, nothing waits.
     pub(crate) fn recv(&self, into: &mut [u8]) -> io::Result<Option<usize>>
         ensures { IfOk result (λ got. IfSome got (λ count. count ≤ length into.new)) }
     {
         match self.socket.recv_from(into) {
             Ok((count, _)) => Ok(Some(count)),
-            Err(error) if is_none_yet(error.kind()) => Ok(None),
+            Err(error) if is_for_later(error.kind()) => Ok(None),
             Err(error) => Err(error),
         }
     }
+
+    /// Whether a receive would have something to tell: a datagram waits, or it would fail.
+    pub(crate) fn has_news(&self) -> bool {
+        match self.socket.peek_from(&mut [0]) {
+            Ok(_) => true,
+            Err(error) => !is_for_later(error.kind()),
+        }
+    }
+
+    /// Waits for a datagram, a moment and no longer.
+    pub(crate) fn wait(&self) {
+        if self.socket.set_nonblocking(false).is_ok() {
+            let _ = self.socket.peek_from(&mut [0]);
+        }
+        let _ = self.socket.set_nonblocking(true);
+    }
 }
 
-// Whether a receive that ends so only met no datagram.
-fn is_none_yet(kind: ErrorKind) -> bool {
-    kind == ErrorKind::WouldBlock || kind == ErrorKind::Interrupted
+/// Whether the system did nothing yet: nothing waits or there is no room, or a signal came between.
+fn is_for_later(kind: ErrorKind) -> bool {
+    matches!(kind, ErrorKind::WouldBlock | ErrorKind::Interrupted)
 }
 
 // The peers, with nobody after them.

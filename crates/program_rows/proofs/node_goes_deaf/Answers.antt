@@ -14,8 +14,9 @@ use Rattle.file_mean.specs.Layers.{handler_of, layer_of}
 use Rattle.file_mean.specs.Stack.{stack_of}
 use Rattle.run_mean.specs.World.{happens}
 use Rattle.run_mean.specs.Report.{report_lines, output_in}
-use Rattle.std.specs.Prelude.{ℕ, ◌<◌, All, [], ◌∷◌, codes}
+use Rattle.std.specs.Prelude.{ℕ, ◌<◌, All, [], ◌∷◌, codes, replicate}
 use Rattle.run_mean.specs.Journal.{silence}
+use Rattle.group_mean.specs.Node.{receiving}
 use Rattle.script_mean.specs.declared.event.ScriptEvent.TheVariants as script
 use Rattle.file_mean.specs.CounterFile as counter
 use Rattle.program_rows.proofs.node_goes_deaf.Goals as goal
@@ -28,7 +29,7 @@ three_below = All-cons below 0 (1 ∷ 2 ∷ []) (omega arith)
     (All-cons below 1 (2 ∷ []) (omega arith) (All-cons below 2 [] (omega arith) (All-nil below)))
 
 pub returns-clause-ends : goal.returns-clause-ends
-unfolding file_of library stack_of layer_of handler_of output_in
+unfolding receiving file_of library stack_of layer_of handler_of output_in
     report_lines happens received drawn_shape has_second_case run step digits ones ones_in
     count_trailing_zeros hex_on_literals
 returns-clause-ends c = record {
@@ -55,7 +56,7 @@ returns-clause-ends c = record {
     members = three_below;
     room = omega arith;
   };
-  before = silence ∷ silence ∷ silence ∷ [];
+  before = replicate 48 silence;
   last = refl;
   borne = refl;
   turns = omega arith;
@@ -66,7 +67,7 @@ returns-clause-ends c = record {
 }
 
 pub returns-clause-patient : goal.returns-clause-patient
-unfolding file_of library stack_of layer_of handler_of output_in
+unfolding receiving file_of library stack_of layer_of handler_of output_in
     report_lines happens received drawn_shape has_second_case run step digits ones ones_in
     count_trailing_zeros hex_on_literals
 returns-clause-patient c = record {

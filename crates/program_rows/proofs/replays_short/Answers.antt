@@ -12,14 +12,15 @@ use Rattle.packet_mean.specs.Received.{received}
 use Rattle.file_mean.specs.Layers.{handler_of, layer_of}
 use Rattle.file_mean.specs.Stack.{stack_of}
 use Rattle.run_mean.specs.World.{happens}
-use Rattle.run_mean.specs.Report.{report_lines, output_in}
+use Rattle.run_mean.specs.Report.{report_lines}
+use Rattle.group_mean.specs.Told.{replay_lines}
 use Rattle.std.specs.Prelude.{[], ◌∷◌, codes}
 use Rattle.script_mean.specs.declared.event.ScriptEvent.TheVariants as script
 use Rattle.file_mean.specs.CounterFile as counter
 use Rattle.program_rows.proofs.replays_short.Goals as goal
 
 pub returns : goal.returns
-unfolding file_of library stack_of layer_of handler_of output_in
+unfolding file_of library stack_of layer_of handler_of replay_lines
     report_lines happens received drawn_shape has_second_case run step digits ones ones_in
     count_trailing_zeros hex_on_literals
 returns c = record {

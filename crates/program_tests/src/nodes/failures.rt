@@ -10,9 +10,9 @@ use std::test::Fail;
 const LOST: &[u8] =
     b"> tick 0 5\n> tick 1 5\n> tick 2 5\n> cast 0 6869\npacket 1 0 all cnt.num(0) 6869\nlost 1\n> tick 0 6\n> tick 1 6\n> tick 2 6\n> raw 2 e50000000100000007000000000000000700ff01000000006869\ndeliver 2 cast 0 6869\n> cast 2 7a\npacket 2 2 all cnt.num(0) 7a\nlost 2\nend 9\n";
 
-/// Three turns, where the first datagram is lost, the second comes twice, and the last overtakes.
+/// Three turns, where the first datagram is lost, the second comes twice in one turn, and the last overtakes.
 const UNEVEN: &[u8] =
-    b"> tick 0 5\n> tick 1 5\n> tick 2 5\n> cast 0 6869\npacket 1 0 all cnt.num(0) 6869\n> tick 0 6\n> tick 1 6\n> tick 2 6\n> raw 2 e50000000100000007000000000000000700ff01000000006869\ndeliver 2 cast 0 6869\n> cast 2 7a\npacket 2 2 all cnt.num(0) 7a\n> tick 0 7\n> tick 1 7\n> tick 2 7\n> raw 0 e50000000100000007000000000000000702ff01000000007a\ndeliver 0 cast 2 7a\n> raw 1 e50000000100000007000000000000000702ff01000000007a\ndeliver 1 cast 2 7a\n> raw 2 e50000000100000007000000000000000700ff01000000006869\ndeliver 2 cast 0 6869\nend 15\n";
+    b"> tick 0 5\n> tick 1 5\n> tick 2 5\n> cast 0 6869\npacket 1 0 all cnt.num(0) 6869\n> tick 0 6\n> tick 1 6\n> tick 2 6\n> raw 2 e50000000100000007000000000000000700ff01000000006869\ndeliver 2 cast 0 6869\n> raw 2 e50000000100000007000000000000000700ff01000000006869\ndeliver 2 cast 0 6869\n> cast 2 7a\npacket 2 2 all cnt.num(0) 7a\n> tick 0 7\n> tick 1 7\n> tick 2 7\n> raw 0 e50000000100000007000000000000000702ff01000000007a\ndeliver 0 cast 2 7a\n> raw 1 e50000000100000007000000000000000702ff01000000007a\ndeliver 1 cast 2 7a\nend 15\n";
 
 /// What a node of two turns writes where nothing fails and the clock goes back.
 const BACK: &[u8] =
@@ -98,23 +98,25 @@ fn sendings_fail(rt: HostRuntime) -> Result<(), Fail> {
     Ok(())
 }
 
+/// Receives of which `good` go well, and then one fails.
+fn failing_after(alloc: Global, good: usize) -> Result<Vec<bool>, AllocError> {
+    let mut receives = Vec::new(alloc);
+    for _ in 0..good {
+        receives.push(false)?;
+    }
+    receives.push(true)?;
+    Ok(receives)
+}
+
 #[test]
 fn each_listen_and_receive_fails_once(rt: HostRuntime) -> Result<(), Fail> {
     let alloc = rt.alloc();
-    for lines in [0, 3, 8, 10] {
+    let mut unheard = nothing_fails(alloc)?;
+    unheard.listens = vec![in alloc; false, false, true]?;
+    assert!(rt; leaves(alloc, unheard, 6, b"", b"link fault\n")?);
+    for (lines, good) in [(3, 1), (3, 46), (8, 49), (10, 50)] {
         let mut case = nothing_fails(alloc)?;
-        if lines == 0 {
-            case.listens = vec![in alloc; false, false, true]?;
-        }
-        if lines == 3 {
-            case.receives = vec![in alloc; false, true]?;
-        }
-        if lines == 8 {
-            case.receives = vec![in alloc; false, false, false, false, true]?;
-        }
-        if lines == 10 {
-            case.receives = vec![in alloc; false, false, false, false, false, true]?;
-        }
+        case.receives = failing_after(alloc, good)?;
         assert!(rt; leaves(alloc, case, 6, front(SERVED, lines, 0), b"link fault\n")?);
     }
     Ok(())

@@ -74,3 +74,15 @@ returns-clause-replays_traces c = refl
 pub returns-clause-replays_traces_by_bypasses : goal.returns-clause-replays_traces_by_bypasses
 unfolding clap_on_literals
 returns-clause-replays_traces_by_bypasses c = refl
+
+pub returns-clause-tells_events : goal.returns-clause-tells_events
+unfolding clap_on_literals
+returns-clause-tells_events c = refl
+
+pub returns-clause-tells_events_in_any_order : goal.returns-clause-tells_events_in_any_order
+unfolding clap_on_literals
+returns-clause-tells_events_in_any_order c = refl
+
+pub returns-clause-tells_events_by_traces : goal.returns-clause-tells_events_by_traces
+unfolding clap_on_literals
+returns-clause-tells_events_by_traces c = refl

@@ -70,3 +70,11 @@ returns-clause-raw_twice c = refl
 pub returns-clause-traces_twice : goal.returns-clause-traces_twice
 unfolding clap_on_literals
 returns-clause-traces_twice c = refl
+
+pub returns-clause-events_twice : goal.returns-clause-events_twice
+unfolding clap_on_literals
+returns-clause-events_twice c = refl
+
+pub returns-clause-events_with_a_value : goal.returns-clause-events_with_a_value
+unfolding clap_on_literals
+returns-clause-events_with_a_value c = refl

@@ -102,3 +102,15 @@ returns-clause-traces_for_load c = refl
 pub returns-clause-traces_for_node : goal.returns-clause-traces_for_node
 unfolding clap_on_literals
 returns-clause-traces_for_node c = refl
+
+pub returns-clause-events_for_explain : goal.returns-clause-events_for_explain
+unfolding clap_on_literals
+returns-clause-events_for_explain c = refl
+
+pub returns-clause-number_of_events_for_replay : goal.returns-clause-number_of_events_for_replay
+unfolding clap_on_literals
+returns-clause-number_of_events_for_replay c = refl
+
+pub returns-clause-events_without_a_number : goal.returns-clause-events_without_a_number
+unfolding clap_on_literals
+returns-clause-events_without_a_number c = refl

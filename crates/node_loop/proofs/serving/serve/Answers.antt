@@ -21,6 +21,14 @@ returns-in_err-desk g c =
     (g.F.Feed.group c.args.feed.now).mode c.law_stopped_goes_on.ensures
     (whereabouts (around g.O.Sink g.N.Links c.args.out.now c.args.links.now) (g.C.Clock.told c.args.clock.now)))
 
+pub returns-in_err-asking : goal.returns-in_err-asking
+returns-in_err-asking g c =
+    let p = err_from_is_err_and c.from_residual-in_err-asking.result c.from_residual-in_err-asking.ensures.1 in
+    rw (p.1, p.2) (not_begun (stack_in c.args.course) c.args.course.plan.now c.args.course.me.now c.args.course.turns
+    c.args.patience
+    (g.F.Feed.group c.args.feed.now).mode c.law_stopped_goes_on.ensures
+    (whereabouts (around g.O.Sink g.N.Links c.args.out.now c.args.links.now) (g.C.Clock.told c.args.clock.now)))
+
 pub listen_all-requires-clause-members : goal.listen_all-requires-clause-members
 listen_all-requires-clause-members g c =
     subst (λ peers. AllByRecursion (λ id. id < length peers) c.args.course.me.now) (sym c.slice.ensures)

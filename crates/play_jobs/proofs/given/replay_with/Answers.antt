@@ -19,7 +19,7 @@ pub returns-in-Ok-fetch_script : goal.returns-in-Ok-fetch_script
 returns-in-Ok-fetch_script g c =
     let r = c.args.replay.now in
     let a = around g.S.Shelf g.O.Sink c.args.shelf.now c.play_traces.new.shelf c.args.out.now c.play_traces.new.out in
-    with_comes r.file.now r.script.now r.traces.now r.wire r.count a (g.S.Shelf.faults c.fetch_stack.new.shelf)
+    with_comes r.file.now r.script.now r.traces.now r.events r.wire r.count a (g.S.Shelf.faults c.fetch_stack.new.shelf)
     (g.S.Shelf.faults c.fetch_script.new.shelf)
     (stack_tree c.in-Ok.stack) c.in-Ok-fetch_script.script c.in-Ok.ensures.read
     (rw c.in-Ok.ensures.kept at c.in-Ok-fetch_script.ensures.read)
@@ -28,7 +28,7 @@ returns-in-Ok-fetch_script g c =
 
 pub returns-in-Err-fetch_script : goal.returns-in-Err-fetch_script
 returns-in-Err-fetch_script g c = with_stops c.args.replay.now.file.now c.args.replay.now.script.now
-    c.args.replay.now.traces.now c.args.replay.now.wire
+    c.args.replay.now.traces.now c.args.replay.now.events c.args.replay.now.wire
     c.args.replay.now.count
     (around g.S.Shelf g.O.Sink c.args.shelf.now c.fetch_script.new.shelf c.args.out.now c.args.out.now)
     (g.S.Shelf.faults c.fetch_stack.new.shelf) (stack_tree c.in-Ok.stack) (shown_end c.in-Err-fetch_script.ending)

@@ -19,15 +19,16 @@ pub returns-in-Ok-fetch_script : goal.returns-in-Ok-fetch_script
 returns-in-Ok-fetch_script g c =
     let job = c.args.replay.now in
     let a = around g.S.Shelf g.O.Sink c.args.shelf.now c.fetch_script.new.shelf c.args.out.now c.play.new.out in
-    subst (Comes (replay job.file.now job.script.now (shown_mode job.mode) job.wire job.count) a) (sym c.ending.ensures)
+    subst (Comes (replay job.file.now job.script.now (shown_mode job.mode) job.events job.wire job.count) a)
+    (sym c.ending.ensures)
     (replay_comes job.file.now job.script.now a (g.S.Shelf.faults c.fetch_stack.new.shelf) (stack_tree c.in-Ok.stack)
     c.in-Ok-fetch_script.script
-    (rw c.in-Ok.ensures.kept at c.in-Ok-fetch_script.ensures.read) (shown_mode job.mode) job.wire job.count
+    (rw c.in-Ok.ensures.kept at c.in-Ok-fetch_script.ensures.read) (shown_mode job.mode) job.events job.wire job.count
     c.in-Ok.ensures.read c.play.result c.play.ensures)
 
 pub returns-in-Err-fetch_script : goal.returns-in-Err-fetch_script
 returns-in-Err-fetch_script g c = stops c.args.replay.now.file.now c.args.replay.now.script.now
-    (shown_mode c.args.replay.now.mode) c.args.replay.now.wire c.args.replay.now.count
+    (shown_mode c.args.replay.now.mode) c.args.replay.now.events c.args.replay.now.wire c.args.replay.now.count
     (around g.S.Shelf g.O.Sink c.args.shelf.now c.fetch_script.new.shelf c.args.out.now c.args.out.now)
     (g.S.Shelf.faults c.fetch_stack.new.shelf) (stack_tree c.in-Ok.stack) (shown_end c.in-Err-fetch_script.ending)
     c.in-Ok.ensures.read

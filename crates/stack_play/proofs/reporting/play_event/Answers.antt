@@ -15,6 +15,7 @@ returns-clause-told g c = λ w stands.
     c.feed.new.out.outputs old.visits c.feed.new.visits c.in_ok-did.did c.requires.ready.mode_is
     c.requires.ready.stack_is c.requires.ready.plans_are
     (c.in_ok-did.ensures.fed w stands) in
-    told_event _ _ _ c.args.manner.wire w c.args.event.now old new c.feed.new.out.outputs c.in_ok-did.did h _ _ _
+    told_event _ _ _ c.args.manner.events c.args.manner.wire w c.args.event.now old new c.feed.new.out.outputs
+    c.in_ok-did.did h _ _ _
     c.write_event.result
     c.next_number-first.ensures.number stands c.write_event.ensures

@@ -7,7 +7,7 @@ use Rattle.stack_play.proofs.Held.{held_first, held_more, held_cut, ready_as_it_
 use Rattle.stack_play.proofs.reporting.write_events.Goals as goal
 
 pub loop-event-init : goal.loop-event-init
-loop-event-init g c = held_first _ _ _ c.args.script.now c.args.manner.wire
+loop-event-init g c = held_first _ _ _ c.args.script.now c.args.manner.events c.args.manner.wire
     (playing (g.G.Feed.group c.args.group.now) c.args.run.now) _
     c.requires.first c.requires.visits
 
@@ -22,7 +22,7 @@ loop-event-preserved g c =
     let lt : c.loop-event.event-index < length script.events =
     omega (arith, c.loop-event-test.true, ap length c.slice-event-items.ensures) in
     held_more (g.G.Feed.group c.args.group.now).mode (stack_tree c.args.manner.stack.now)
-    (plans_tree c.args.manner.plans.now) script c.args.manner.wire
+    (plans_tree c.args.manner.plans.now) script c.args.manner.events c.args.manner.wire
     c.loop-event.event-index c.event-item.result lt
     (c.event-item.is ∙ ap (λ es. get_or es c.loop-event.event-index c.event-item.result) c.slice-event-items.ensures) _
     _ _ _ _ c.loop-event.invariant
@@ -36,7 +36,7 @@ returns-in_err-play_event-clause-lines g c =
     let p = err_from_is_err_and c.from_residual.result c.from_residual.ensures.1 in
     rw (p.1, p.2) (held_cut (g.G.Feed.group c.args.group.now).mode (stack_tree c.args.manner.stack.now)
     (plans_tree c.args.manner.plans.now) script
-    c.args.manner.wire c.loop-event.event-index c.event-item.result lt
+    c.args.manner.events c.args.manner.wire c.loop-event.event-index c.event-item.result lt
     (c.event-item.is ∙ ap (λ es. get_or es c.loop-event.event-index c.event-item.result) c.slice-event-items.ensures) _
     _ _ _ _ c.loop-event.invariant
     (c.in_err-play_event.ensures.told _ c.loop-event.invariant.stands.world))

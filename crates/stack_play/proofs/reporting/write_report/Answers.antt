@@ -17,7 +17,7 @@ returns-in_err-write_events g c =
     rw (p.1, p.2) (part_of _ _ _ _ _ _
     (output_is mode (stack_tree c.args.report.manner.stack.now) (plans_tree c.args.report.manner.plans.now)
     c.args.report.script.now
-    c.args.report.manner.wire c.args.report.count)
+    c.args.report.manner.events c.args.report.manner.wire c.args.report.count)
     c.in_err-write_events.ensures.lines)
 
 pub returns : goal.returns
@@ -30,7 +30,7 @@ returns g c =
     wrote_as _ _ _ _ c.write_last.result
     (sym (output_is mode (stack_tree c.args.report.manner.stack.now) (plans_tree c.args.report.manner.plans.now)
     c.args.report.script.now
-    c.args.report.manner.wire c.args.report.count))
+    c.args.report.manner.events c.args.report.manner.wire c.args.report.count))
     (wrote_both _ _ _ _ _ c.write_last.result c.in_ok-write_events.ensures.lines
     (subst {A = ℕ × ℕ} (λ x. Wrote (end_line x.0 ∷ visits_if c.args.report.count x.1) before after c.write_last.result)
     (λ k. (events k, visits k))
