@@ -13,7 +13,7 @@ STACKC = os.environ["STACKC"]
 COUNTER = os.path.join(TOP, "examples", "counter.layers")
 ORDER = os.path.join(TOP, "examples", "order.layers")
 TWO_CASTS = "group 1 stamp 1 members 3\ncast 0 6161\ncast 0 6262\n"
-EACH_CASTS = "group 1 stamp 1 members 3\n" + "".join(f"cast {m} 6{m}{k}\n" for m in range(3) for k in range(2))
+EACH_CASTS = "group 1 stamp 1 members 3\n" + "".join(f"cast {m} 6{m}6{k}\n" for m in range(3) for k in range(2))
 WRONG = []
 
 
